@@ -8,6 +8,7 @@ use crate::name::Name;
 use std::marker::Model;
 
 /// A list that a public value holds. It is made of a `Vec` and gives it back without taking memory.
+// One list type for all public values: what holds of it is proved once.
 #[derive(Debug, Drop)]
 pub struct Items<T> {
     items: Vec<T>,
@@ -39,6 +40,7 @@ pub type ByteList = Items<u8>;
 impl<T> Items<T> {
     /// The list of a vector's elements.
     pub fn of(items: Vec<T>) -> Items<T>
+        // The list has the vector's elements.
         ensures { result ≡ items.items }
     {
         Items { items }
@@ -46,6 +48,7 @@ impl<T> Items<T> {
 
     /// The elements.
     pub fn items(&self) -> &[T]
+        // It gives the list's elements as a slice.
         ensures { result.now ≡ self.now }
     {
         self.items.as_slice()
@@ -53,6 +56,7 @@ impl<T> Items<T> {
 
     /// The vector of the elements.
     pub fn into_vec(self) -> Vec<T>
+        // It gives the list's elements as a vector.
         ensures { result.items ≡ self }
     {
         self.items
@@ -62,7 +66,9 @@ impl<T> Items<T> {
 impl<T: Drop> Items<T> {
     /// Adds an element at the end.
     pub fn push(&mut self, item: T) -> Result<(), Oom>
+        // After `Ok` the list has the element more, at its end.
         ensures ok { OnOk result (self.new ≡ self.old ++ item ∷ []) }
+        // After an error the list is as before.
         ensures err { OnErr result (self.new ≡ self.old) }
     {
         self.items.push(item)?;

@@ -33,6 +33,7 @@ impl Model for Name {
 impl Name {
     /// The name of the root task.
     pub fn root() -> Name
+        // The root's name is the empty list.
         ensures { result ≡ [] }
     {
         Name { numbers: None }
@@ -40,6 +41,7 @@ impl Name {
 
     /// The name of the k-th thing that this task makes.
     pub fn child(&self, alloc: Global, k: u32) -> Result<Name, Oom>
+        // The name is that of the maker with k at its end.
         ensures { IfOk result (λ name. name ≡ self.now ++ k ∷ []) }
     {
         let parts = self.parts();
@@ -53,6 +55,7 @@ impl Name {
 
     /// An equal name.
     pub fn copy(&self, _alloc: Global) -> Result<Name, Oom>
+        // The copy equals the name.
         ensures { IfOk result (λ name. name ≡ self.now) }
     {
         match &self.numbers {
@@ -65,6 +68,7 @@ impl Name {
 
     /// The numbers of the name, from the root on.
     pub fn parts(&self) -> &[u32]
+        // It gives the numbers of the name.
         ensures { result.now ≡ self.now }
     {
         match &self.numbers {
@@ -75,7 +79,9 @@ impl Name {
 
     /// Adds the printed name, as `0` for the root and `0.3.1` for a name of two numbers.
     pub fn text_into(&self, alloc: Global, out: &mut Vec<u8>) -> Result<(), Oom>
+        // After `Ok` the text has grown by exactly the printed name.
         ensures ok { IfOk result (λ _. out.new.items ≡ out.old.items ++ name_text self.now) }
+        // After an error the text is as before.
         ensures err { OnErr result (out.new.items ≡ out.old.items) }
     {
         let text = printed(alloc, self.parts())?;

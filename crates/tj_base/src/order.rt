@@ -9,6 +9,7 @@ use std::cmp::Ordering;
 
 /// The name order: a name before all that begin with it, else the lower number first.
 pub fn name_cmp(a: &Name, b: &Name) -> Ordering
+    // The answer is the order of the names as lists: a prefix first, else the lower number first.
     ensures { result ≡ slice_cmp nat_cmp a.now b.now }
 {
     a.parts().cmp(b.parts())
@@ -18,7 +19,10 @@ pub fn name_cmp(a: &Name, b: &Name) -> Ordering
 /// directly after its parent: a parent is before its descendants, and what it forked later is
 /// before what it forked earlier.
 pub fn path_before(a: &Name, b: &Name) -> bool
+    // The answer is what the definition `before` computes.
     ensures computed { result ≡ before a.now b.now }
+    // True comes exactly where task a is before task b in the fork order: it is an ancestor, or
+    // stands in a branch that was forked later.
     ensures order { IsTrue result ↔ IsBefore a.now b.now }
 {
     numbers_before(a.parts(), b.parts())

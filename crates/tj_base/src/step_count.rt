@@ -5,6 +5,7 @@ use std::marker::Model;
 use std::sync::ledger::{Blank, Book, Ledger, Share};
 
 /// How many steps were counted. Only `tick` raises it.
+// The kit makes the book of a ledger from a blank one; who counts nothing hands on a new one.
 #[derive(Drop)]
 pub struct Steps<L: Ledger> {
     book: Book<L>,
@@ -27,6 +28,7 @@ impl<L: Ledger> Steps<L> {
         requires name { blank.name ≡ L.name }
         requires parts { blank.parts ≡ L.parts }
         requires some { 0 < blank.parts }
+        // The counter stands at 0.
         ensures { result ≡ 0 }
     {
         let (book, share) = blank.open();
@@ -35,6 +37,7 @@ impl<L: Ledger> Steps<L> {
 
     /// Counts one step.
     pub fn tick(&mut self)
+        // The count is one more.
         ensures { self.new ≡ self.old + 1 }
     {
         self.book.add(&mut self.share, 1);

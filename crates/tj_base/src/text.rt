@@ -8,7 +8,9 @@ use itoa::{Buffer, Integer};
 
 /// Adds a number in decimal.
 pub fn add_number(text: &mut Vec<u8>, number: u128) -> Result<(), Oom>
+    // After `Ok` the text has grown by exactly the number in decimal.
     ensures ok { IfOk result (λ _. text.new.items ≡ text.old.items ++ decimal number) }
+    // After an error the text is as before.
     ensures err { OnErr result (text.new.items ≡ text.old.items) }
 {
     add_integer(text, number)
@@ -16,7 +18,10 @@ pub fn add_number(text: &mut Vec<u8>, number: u128) -> Result<(), Oom>
 
 /// Adds a number in decimal, with its sign where it is less than 0.
 pub fn add_signed(text: &mut Vec<u8>, number: i64) -> Result<(), Oom>
+    // After `Ok` the text has grown by exactly the number in decimal, behind a `-` where it is less
+    // than 0.
     ensures ok { IfOk result (λ _. text.new.items ≡ text.old.items ++ signed_decimal number) }
+    // After an error the text is as before.
     ensures err { OnErr result (text.new.items ≡ text.old.items) }
 {
     add_integer(text, number)
@@ -34,6 +39,7 @@ fn add_integer<I: Integer>(text: &mut Vec<u8>, number: I) -> Result<(), Oom>
 
 /// Adds a word and a number in decimal.
 pub fn add_count(text: &mut Vec<u8>, word: &[u8], number: u128) -> Result<(), Oom>
+    // After `Ok` the text has grown by exactly the word and the number in decimal.
     ensures { IfOk result (λ _. text.new.items ≡ text.old.items ++ counted word.now number) }
 {
     text.extend_from_slice(word)?;

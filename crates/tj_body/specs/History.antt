@@ -30,6 +30,7 @@ use Rattle.tj_body.specs.declared.point.Task.{Task}
 use Rattle.tj_body.specs.declared.point.Point.{Point}
 
 -- what has become of each cell: it is broken, or has a value, or neither yet
+-- a function and no finite map: rounds come from lists, a runtime's from words
 abbrev pub Assignment : Type 0
 Assignment = Name → Option Entry
 
@@ -88,6 +89,7 @@ hand_all holds [] = Ok holds
 hand_all holds (r ∷ rs) = hand_one r.sort (has r.name holds) r.name (hand_all (without r.name holds) rs)
 
 -- the cells owned in this stage: until a task ends it owns its result too
+-- a point doesn't hold the result, since its task could then set it by a statement under some assignment
 abbrev pub owned_in : PointStage → Name → List Name → List Name
 owned_in (stage.Answered a) x holds = x ∷ holds
 owned_in (stage.Waits q spare) x holds = x ∷ holds

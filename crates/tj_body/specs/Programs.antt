@@ -16,6 +16,7 @@ pub record Rules (B : Type 0) : Type 0 where
   pub then : B → Answer → B
 
 -- a program: what its tasks go by, and the body of its root
+-- its root is a body and no task: the root is passed and handed nothing
 pub record Program (B : Type 0) : Type 0 where
   pub rules : Rules B
   pub root : B

@@ -28,6 +28,7 @@ abbrev pub is_row_list : ℕ → List Row → Bool
 is_row_list = is_list_of most_rows is_row
 
 -- the lists are those of a table
+-- one test and no record: a caller with a literal table has it computed
 abbrev pub is_table : List (List Row) → Bool
 is_table = are_table most_rows is_row
 

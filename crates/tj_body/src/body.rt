@@ -29,11 +29,14 @@ pub trait Body: Sized + Send + Drop {
     fn next(&mut self, alloc: Global, a: Answer) -> Result<Ask<Self>, Oom>
         requires fits { Fits (awaits self.old) (places self.old) a }
         requires room { places self.old < 2 ^ 31 }
+        // The ask is the function `asks` of the body and the answer.
         ensures ask { IfOk result (λ ask. ask ≡ asks self.old a) }
+        // The body from then on is the function `then` of these.
         ensures body { IfOk result (λ _. self.new ≡ then self.old a) };
 
     /// An equal body.
     fn twin(&self, alloc: Global) -> Result<Self, Oom>
+        // The twin equals the body.
         ensures { IfOk result (λ twin. twin ≡ self.now) };
 
     /// The laws of one ask.

@@ -63,9 +63,14 @@ impl<'s> TableBody<'s> {
     pub fn new(rows: &'s [RowList], at: u32) -> TableBody<'s>
         requires at { at < length rows.now }
         requires table { IsTrue (is_table rows.now) }
+        // The body of a table has asked nothing yet and has one place.
         ensures fresh { IsFresh table_places table_awaits table_left 1 result }
+        // It is a body of the given lists.
         ensures table { lists_of result ≡ rows.now }
+        // It gives the rows of the list with number `at`.
         ensures list { result ≡ body_at result at 1 }
+        // Whatever it is answered, each body of the table gives the rows of its list in order and
+        // then End of 0; a row with a place that the task doesn't have is given as a fault of kind.
         ensures rows { GivesTable result }
     {
         TableBody {
@@ -146,7 +151,9 @@ fn if_placed<B: Drop>(placed: bool, ask: Ask<B>) -> Ask<B>
 
 /// How many places the answer adds.
 pub fn new_places(a: Answer) -> u32
+    // It tells how many places an answer adds.
     ensures value { result ≡ asks.new_places a }
+    // That is one at most.
     ensures at_most_one { result ≤ 1 }
 {
     match a {
@@ -174,6 +181,7 @@ fn are_below(n: u32, places: &PlaceList) -> bool
 
 /// An equal list.
 pub fn copy_places(alloc: Global, places: &PlaceList) -> Result<PlaceList, Oom>
+    // The copy of a list of places equals it.
     ensures { IfOk result (λ copy. copy ≡ places.now) }
 {
     Ok(Items::of(Vec::from_slice(alloc, places.items())?))

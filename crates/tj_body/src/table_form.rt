@@ -15,6 +15,7 @@ const MOST_PASSED: usize = 1_048_576;
 /// Whether the lists are those of a table: none has more than 1,048,576 rows, and each Fork row
 /// names one of the lists and passes at most 1,048,576 places.
 pub fn is_table(lists: &[RowList]) -> bool
+    // It tells whether the lists are those of a table.
     ensures { result ≡ table.is_table lists.now }
 {
     lists.iter().all(|list| is_list(lists.len(), list))
@@ -47,8 +48,12 @@ impl<'s> TableBody<'s> {
     /// The body that gives the rows of the list with number `at`, as `new` makes it, where the lists
     /// are those of a table and there is such a list.
     pub fn checked(rows: &'s [RowList], at: u32) -> Option<TableBody<'s>>
+        // There is no body exactly where the lists aren't those of a table, or no list has the
+        // number `at`.
         ensures none { (result ≡ None) ↔ ¬ (IsTrue (table.is_table rows.now)
             × (at < length rows.now)) }
+        // Else it is one that has asked nothing yet, of the given lists, which gives the rows of
+        // the list with number `at`, as `new` makes it.
         ensures fresh { IfSome result (IsFresh table_places table_awaits table_left 1) }
         ensures table { IfSome result (λ body. lists_of body ≡ rows.now) }
         ensures list { IfSome result (λ body. body ≡ body_at body at 1) }

@@ -18,7 +18,10 @@ pub fn fill<B: Body>(laid: &Laid<B>, seat: &mut WSeat<B>, t: CellId, p: CellId, 
     requires owner { MayGiveUp t.0 p.0 seat.old.me.0 }
     requires value { MayFill (program_of B.places B.awaits B.left B.asks B.then) p.0 v
         seat.old.me.0 }
+    // The seat is the same one of the same table, with the same slots.
     ensures seat { IsSameSeat seat.old seat.new }
+    // The task owns the cell no more, the seat knows that it has this value, and is to shut its
+    // chain.
     ensures view { IsFilledWith t.0 p.0 v seat.old.me.0 seat.new.me.0 }
 {
     let (tag, bits) = value_words(Some(v));
@@ -34,7 +37,9 @@ pub fn break_off<B: Body>(laid: &Laid<B>, seat: &mut WSeat<B>, t: CellId, p: Cel
     requires owner { MayGiveUp t.0 p.0 seat.old.me.0 }
     requires broken { WillBecome (program_of B.places B.awaits B.left B.asks B.then) p.0 Broken
         seat.old.me.0 }
+    // The seat is the same one of the same table, with the same slots.
     ensures seat { IsSameSeat seat.old seat.new }
+    // The task owns the cell no more, the seat knows that it is broken, and is to shut its chain.
     ensures view { seat.new.me.0 ≡ became t.0 p.0 Broken seat.old.me.0 }
 {
     let (tag, nothing) = value_words(None);

@@ -28,9 +28,14 @@ pub fn make<B: Body>(laid: &Laid<B>, seat: &mut WSeat<B>, t: CellId, kid: u32) -
     requires table { IsSeatOf laid.now seat.old }
     requires may { MayMake (program_of B.places B.awaits B.left B.asks B.then) t.0 kid
         seat.old.me.0 }
+    // The seat is the same one of the same table, with the same slots.
     ensures seat { IsSameSeat seat.old seat.new }
+    // A promise is made: it is there, its maker owns it and has made one thing more, nothing is in
+    // hand, and all else that the seat has to do is as before.
     ensures made { IfOk result (λ c. IsMade sorts.Promise laid.now.cells t.0 c.0
         seat.old.me.0 seat.new.me.0) }
+    // Full comes only where the draw of this call found no cell left: then the meaning is full, and
+    // nothing else was written.
     ensures full { OnErr result (FindsNone (program_of B.places B.awaits B.left B.asks B.then)
         seat.old.me.0 seat.new.me.0) }
 {
@@ -48,10 +53,16 @@ pub fn birth<B: Body>(laid: &Laid<B>, seat: &mut WSeat<B>, t: CellId, kid: u32) 
     requires known { KnowsTask t.0 seat.old.me.0 }
     requires may { MayMake (program_of B.places B.awaits B.left B.asks B.then) t.0 kid
         seat.old.me.0 }
+    // The seat is the same one of the same table.
     ensures seat { (seat.new.table_id ≡ seat.old.table_id) × (seat.new.id ≡ seat.old.id) }
+    // A child is made: it is there, isn't ready, owns its result and is the seat's; its maker has
+    // made one thing more.
     ensures made { IfOk result (λ c. IsMade sorts.Task laid.now.cells t.0 c.0
         seat.old.me.0 seat.new.me.0) }
+    // The child's slot is the seat's, and empty.
     ensures slot { IfOk result (λ c. seat.new.me.1 ≡ (c.0, None) ∷ seat.old.me.1) }
+    // Full comes only where the draw of this call found no cell left, and then nothing else was
+    // written.
     ensures full { OnErr result (FindsNone (program_of B.places B.awaits B.left B.asks B.then)
         seat.old.me.0 seat.new.me.0 × (seat.new.me.1 ≡ seat.old.me.1)) }
 {
@@ -66,7 +77,9 @@ pub fn hand<B: Body>(laid: &Laid<B>, seat: &mut WSeat<B>, t: CellId, p: CellId, 
     requires table { IsSeatOf laid.now seat.old }
     requires cell { IsCellOf laid.now p.0 }
     requires may { MayGiveAway t.0 p.0 child.0 seat.old.me.0 }
+    // The seat is the same one of the same table, with the same slots.
     ensures seat { IsSameSeat seat.old seat.new }
+    // The promise is the child's.
     ensures view { seat.new.me.0 ≡ handed_promise t.0 p.0 child.0 seat.old.me.0 }
 {
     laid.put_owner(seat, p, Some(child));

@@ -27,14 +27,21 @@ pub enum Seen {
 pub fn value<B: Body>(laid: &Laid<B>, seat: &mut WSeat<B>, p: CellId) -> Seen
     requires table { IsSeatOf laid.now seat.old }
     requires cell { IsCellOf laid.now p.0 }
+    // The seat is the same one of the same table, with the same slots.
     ensures seat { IsSameSeat seat.old seat.new }
+    // Nothing yet is never told where the seat knew what has become of the cell.
     ensures not_yet { result ≡ Seen.NotYet → FindsNothing p.0 seat.old.me.0 seat.new.me.0 }
+    // Else what is told is what the cell has in some round of the program, which is what it has in
+    // the meaning where that fits, for good; the seat knows it, and the cell that it names.
     ensures value { result ≢ Seen.NotYet
         → SeesValue (program_of B.places B.awaits B.left B.asks B.then) laid.now.cells p.0 result
         seat.old.me.0 seat.new.me.0 }
-    // This call made one step, the load of TAG as 0; or two, the loads of TAG and then of BITS.
+    // Where nothing has become of it yet, this call is one step, the load of TAG of this cell,
+    // which found 0.
     ensures log_not_yet { result ≡ Seen.NotYet
         → IsLogged (call.sees_once p.0 Once.Tag) 0 0 0 seat.old seat.new }
+    // Else it is two steps, the loads of TAG, which isn't 0, and then of BITS; what is told is what
+    // these two words stand for.
     ensures log_value { result ≢ Seen.NotYet → LoadsEntry p.0 result seat.old seat.new }
 {
     let tag = laid.see_once(seat, p, Once::Tag);

@@ -27,6 +27,7 @@ abbrev pub leaves : {C : Type 0} → ChatPoint C → List (Channel × ChannelSta
 leaves p = map (left_of false) p.handed_on ++ map (left_of (has_ended p.stage)) p.ends
 
 -- of two states of one channel the longer list; it is cut where one of them is
+-- the longer list counts: a task that is given an end goes on with the list so far
 abbrev pub later_of : ChannelState → ChannelState → ChannelState
 later_of a b = record {
   sent = cond (nat_lt (length a.sent) (length b.sent)) b.sent a.sent;

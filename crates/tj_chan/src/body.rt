@@ -54,13 +54,18 @@ impl<C: Chatter> ChanBody<C> {
     ghost use Rattle.tj_chan.specs.ChannelLaws.{rules_of, IsMeantByLists};
 
     /// The body of a root with this chatter.
+    // It asks for a chatter without a channel, since a root is passed none.
     pub fn new(alloc: Global, root: C) -> Result<ChanBody<C>, Oom>
         requires root { IsFreshChat C.channels C.awaits C.left 0 root }
+        // The body of a root has asked nothing yet and has one place.
         ensures fresh { let rules = rules_of C.channels C.awaits C.left C.asks C.then in
             IfOk result (IsFresh chan_places (chan_awaits rules) (chan_left rules) 1) }
+        // It is that of the root's chatter, without a channel.
         ensures root { IfOk result (λ body. body ≡ bodies.root_body root) }
 
-        // The outcome of its program is that of channels as lists, and it is full where they are.
+        // Under either rule and with each number of cells, the body's program is full exactly if
+        // the rounds over lists are. Its outcome is theirs: the i-th receive of a task from a
+        // channel is answered by the i-th value of its list.
         ensures lists { let rules = rules_of C.channels C.awaits C.left C.asks C.then in
             IfOk result (λ body. IsMeantByLists rules root body) }
     {

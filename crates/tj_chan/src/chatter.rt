@@ -9,6 +9,7 @@ use std::alloc::Global;
 use tj_base::Oom;
 
 /// A task's code. What it asks is a function of the chatter and of what it is answered.
+// Its asks are given one by one, each for its answer, as those of a body.
 pub trait Chatter: Sized + Send + Drop {
     /// How many channels its task has.
     ghost channels: { Self → ℕ };
@@ -30,11 +31,14 @@ pub trait Chatter: Sized + Send + Drop {
     fn next(&mut self, alloc: Global, a: ChatAnswer) -> Result<ChatAsk<Self>, Oom>
         requires fits { FitsChat (awaits self.old) (channels self.old) a }
         requires room { channels self.old < 2 ^ 31 }
+        // The ask is the function `asks` of the chatter and the answer.
         ensures ask { IfOk result (λ ask. ask ≡ asks self.old a) }
+        // The chatter from then on is the function `then` of these.
         ensures body { IfOk result (λ _. self.new ≡ then self.old a) };
 
     /// An equal chatter.
     fn twin(&self, alloc: Global) -> Result<Self, Oom>
+        // The twin equals the chatter.
         ensures { IfOk result (λ twin. twin ≡ self.now) };
 
     /// The laws of one ask.

@@ -46,8 +46,14 @@ pub struct Relay {
 /// The root of a relay of k items.
 pub fn relay_root(k: u32) -> Relay
     requires size { (0 < k) × (k ≤ most_items) }
+    // The relay's root is that of so many items.
     ensures root { result ≡ relays.root_relay k }
+    // It has asked nothing yet and has no channel.
     ensures fresh { IsFreshChat relay_channels relay_awaits relay_left 0 result }
+    // Answered by a place and by any k values whose partial sums are numbers, the root asks the
+    // whole list: it opens the channel, spawns the first child with its end, prints each value as
+    // it comes, and ends with their sum; the first child sends 1 to half of k and hands the end on,
+    // and the second sends the rest.
     ensures gives { relays.GivesRelay k result }
 {
     Relay {

@@ -56,9 +56,14 @@ impl<'s> TableChat<'s> {
     pub fn new(rows: &'s [ChatRowList], at: u32) -> TableChat<'s>
         requires at { at < length rows.now }
         requires table { IsTrue (is_chat_table rows.now) }
+        // The chatter of a table has asked nothing yet and has no channel.
         ensures fresh { IsFreshChat table_channels table_chat_awaits table_chat_left 0 result }
+        // It is a chatter of the given lists.
         ensures table { chat_lists_of result ≡ rows.now }
+        // It gives the rows of the list with number `at`.
         ensures list { result ≡ chat_at result at 0 }
+        // Whatever it is answered, each chatter of the table gives the rows of its list in order
+        // and then End of 0.
         ensures rows { GivesChatTable result }
     {
         TableChat {

@@ -20,6 +20,7 @@ const MOST_CHANNELS: usize = 256;
 /// has from 1 to 4,000 items, and each Spawn row names one of the lists and passes at most 256
 /// channels.
 pub fn is_chat_table(lists: &[ChatRowList]) -> bool
+    // It tells whether the lists are those of a table of channels.
     ensures { result ≡ chats.is_chat_table lists.now }
 {
     lists.iter().all(|list| is_chat_list(lists.len(), list))
@@ -53,8 +54,12 @@ impl<'s> TableChat<'s> {
     /// The chatter that gives the rows of the list with number `at`, as `new` makes it, where the
     /// lists are those of a table and there is such a list.
     pub fn checked(rows: &'s [ChatRowList], at: u32) -> Option<TableChat<'s>>
+        // There is no chatter exactly where the lists aren't those of a table of channels, or no
+        // list has the number `at`.
         ensures none { (result ≡ None) ↔ ¬ (IsTrue (chats.is_chat_table rows.now)
             × (at < length rows.now)) }
+        // Else it is one that has asked nothing yet, of the given lists, which gives the rows of
+        // the list with number `at`, as `new` makes it.
         ensures fresh { IfSome result
             (IsFreshChat table_channels table_chat_awaits table_chat_left 0) }
         ensures table { IfSome result (λ chat. chat_lists_of chat ≡ rows.now) }

@@ -12,6 +12,7 @@ use tj_syntax::{NoScript, ParseFault};
 
 /// The line of a script's fault. Want of memory has none.
 pub fn fault_line(alloc: Global, fault: NoScript) -> Result<Vec<u8>, Oom>
+    // The line of a fault is the stated one, and there is none for want of memory.
     ensures line { IfOk result (λ line. line.items ≡ script_texts.fault_line fault) }
     ensures none { IfOk result (λ _. ¬ IsMemory fault) }
 {
@@ -46,6 +47,7 @@ fn script_fault(alloc: Global, mark: &[u8], at: Place) -> Result<Vec<u8>, Oom>
 
 /// The line of a script that needs more than these cells.
 pub fn full_line(alloc: Global, cells: u32) -> Result<Vec<u8>, Oom>
+    // The line of a run that needs more cells is the stated one.
     ensures { IfOk result (λ line. line.items ≡ texts.full_line cells) }
 {
     count_text(alloc, b"full: more than ", cells as u128, b" cells\n")
@@ -53,6 +55,7 @@ pub fn full_line(alloc: Global, cells: u32) -> Result<Vec<u8>, Oom>
 
 /// A number between two texts.
 pub fn count_text(alloc: Global, before: &[u8], count: u128, after: &[u8]) -> Result<Vec<u8>, Oom>
+    // The text is the bytes in front, the number in decimal, and the bytes behind.
     ensures { IfOk result (λ text. text.items ≡ before.now ++ decimal count ++ after.now) }
 {
     let mut text = Vec::new(alloc);

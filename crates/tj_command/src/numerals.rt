@@ -7,6 +7,7 @@ const MOST_DIGITS: usize = 10;
 
 /// Whether the bytes are 1 to 10 digits.
 pub fn is_short_numeral(bytes: &[u8]) -> bool
+    // The bytes are 1 to 10 digits.
     ensures { IsTrue result ↔ IsShortNumeral bytes.now }
 {
     !bytes.is_empty()
@@ -16,6 +17,7 @@ pub fn is_short_numeral(bytes: &[u8]) -> bool
 
 /// The number of 1 to 10 digits, or None where it isn't from 1 to the greatest.
 pub fn number_up_to(most: u32, digits: &str) -> Option<u32>
+    // Of 1 to 10 digits the number is given exactly where it is from 1 to the greatest.
     ensures { IsShortNumeral digits.now → IsNumberUpTo most digits.now result }
 {
     let number = digits.parse::<u32>().ok()?;

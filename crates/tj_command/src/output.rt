@@ -13,6 +13,7 @@ pub struct Output {
 
 /// The status of what is marked, and of what isn't.
 pub fn status_of(marked: bool) -> Status
+    // The status is Marked of what is marked, and else Clean.
     ensures { result ≡ statuses.status_of marked }
 {
     if marked {

@@ -12,9 +12,11 @@ use tj_syntax::{NoScript, Script, position_behind, script_in};
 /// The script that an input is.
 pub fn script_of(alloc: Global, input: &ReadEnd) -> Result<Script, NoScript>
     requires { IsWithin most_bytes input.now }
+    // Where there is a script, it is that of every input of which this was read.
     ensures ok { IfOk result (λ script. (all : List ℕ) → IsReadOf all input.now
         → IsScriptOf all (view.script script)) }
     ensures script { IfOk result (λ script. IsSomeScript (view.script script)) }
+    // A fault is want of memory, or what is wrong first with every input of which this was read.
     ensures fault { IfErr result (λ fault. IsMemory fault
         ⊎ ((all : List ℕ) → IsReadOf all input.now → IsFirstFault all fault)) }
 {

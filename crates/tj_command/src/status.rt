@@ -27,6 +27,7 @@ impl Status {
 
     /// The exit status.
     pub fn exit_code(self) -> u8
+        // The exit status is the index in the list of statuses, from 0.
         ensures { result ≡ exit_code_of self }
     {
         self as u8

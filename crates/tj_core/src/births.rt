@@ -7,6 +7,7 @@ ghost use Rattle.tj_core.specs.Inner.Births.{AreBorn};
 use std::alloc::{AllocError, Global};
 
 /// The most cells of a core.
+// A number of its own: a root's limit is another, and a script's tasks are counted apart.
 pub const MAX_CORE_CELLS: u32 = 1024;
 
 /// The birth of a cell other than the root.

@@ -21,12 +21,15 @@ pub enum JournalFault {
 }
 
 /// The events of a journal, each on the line of its own number.
+// Its error has out of memory as a variant, so that one enum tells a line's fault and that.
 pub fn read_journal(alloc: Global, bytes: &[u8]) -> Result<Vec<Event>, JournalFault>
     requires { length bytes.now ≤ MAX_JOURNAL }
+    // The events of `Ok` are those whose lines the journal has, one by one.
     ensures ok { IfOk result (λ events. AreEventLines (lines_of bytes.now) events.items) }
+    // `Line(n)` comes only where line n is the first that is no event's.
     ensures line { IfErr result (OrMemory (IsFirstFault (lines_of bytes.now))) }
 
-    // A text with such a line is refused for it, unless memory runs out.
+    // A journal with such a line is refused for it, or the answer is want of memory.
     ensures only_line { (n : ℕ) → IsFirstFault (lines_of bytes.now) n
         → IsErrAnd result (OrMemory (λ m. m ≡ n)) }
 {

@@ -26,6 +26,8 @@ pub struct Judged {
 pub fn judge_text(alloc: Global, events: &[Event], cells: u32) -> Result<Judged, Oom>
     requires some { 0 < cells }
     requires small { cells ≤ MAX_CORE_CELLS }
+    // The text and the mark are those of the events by the rules; marked exactly where an event is
+    // illegal or an alarm is allowed.
     ensures { IfOk result (λ judged. IsJudged cells events.now judged.text judged.marked) }
 {
     let mut core = Core::new(alloc, cells)?;

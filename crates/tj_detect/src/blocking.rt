@@ -62,20 +62,35 @@ pub fn block<B: Body, L: Ledger>(
     requires task { IsCellOf laid.now t.0 }
     requires cell { IsCellOf laid.now q.0 }
     requires may { MayBlock t.0 q.0 way seat.old.me.0 }
+    // The seat is the same, with the same slots.
     ensures seat { IsSameSeat seat.old seat.new }
-    // With n cells counted, at most 3n loads of the walk and 3n + 3 steps; two steps for a skip.
+    // The wait is published, and the view is as it was but for what t does, its steps, and a token
+    // for an alarm; with n cells counted the walk makes at most 3n loads and the call 3n + 3 steps,
+    // and a skip makes two. Walked comes only where a load of this call ended the walk, and the way
+    // is other or this walk has read OTHERS above 0 and gone on from there.
     ensures view { Blocks result t.0 q.0 way steps.old steps.new seat.old.me.0 seat.new.me.0 }
+    // Skipped comes exactly where the way is along and this call loaded OTHERS as 0.
     ensures skipped { result ≡ Verdict.Skipped ↔ HasReadNoOthers t.0 q.0 seat.new.me.0 }
+    // Where the way is along, OTHERS was loaded once the wait was published: in some table under
+    // the law a seat has the view after the publish while OTHERS is the number loaded; the walk is
+    // skipped exactly where that is 0.
     ensures others { way ≡ Way.Along → LoadsOthers
         (program_of B.places B.awaits B.left B.asks B.then) result t.0 q.0 seat.old.me.0 }
+    // Alarm comes only with t on a standing cycle.
     ensures alarm { result ≡ Verdict.Alarm
         → InEachTable (program_of B.places B.awaits B.left B.asks B.then) seat.new.me.0
         (StandsOnCycle t.0) }
+    // Walked comes only where each standing cycle through t has another member that has alarmed or
+    // is on course.
     ensures walked { result ≡ Verdict.Walked
         → InEachTable (program_of B.places B.awaits B.left B.asks B.then) seat.new.me.0
         (OthersWatch t.0) }
-    // These steps are the call's, in this order, and it makes no other: a skipped walk has loaded OTHERS as 0, and the
-    // bound of a walk is a COUNT that it has loaded.
+    // The call is these steps, in this order, and no other. On a wait along the order the wait is
+    // stored, and then OTHERS loaded; an other wait raises OTHERS, and is stored then. Skipped
+    // comes with no step after OTHERS was loaded as 0. Else, which on a wait along the order comes
+    // only where OTHERS was loaded above 0, COUNT is loaded, then OWN and PHASE, at most three
+    // loads for each cell of the table that COUNT counts; and Alarm comes with the store of the
+    // alarm last.
     ensures log { LogsBlock laid.now.cells t.0 q way result seat.old seat.new }
 {
     settlers_are_not_alone();

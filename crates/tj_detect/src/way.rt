@@ -26,12 +26,17 @@ pub fn way_of<B: Body, L: Ledger>(
     requires u_cell { IsCellOf laid.now u.0 }
     requires t_known { KnowsTask t.0 seat.old.me.0 }
     requires u_known { KnowsTask u.0 seat.old.me.0 }
+    // The seat is the same, with the same slots.
     ensures seat { IsSameSeat seat.old seat.new }
+    // It has seen more of the tree, and its view is as it was else.
     ensures view { HasReadTree laid.now.cells seat.old.me.0 seat.new.me.0 }
+    // The way is along exactly where t is before u.
     ensures way { result ≡ way_by seat.new.me.0.born t.0 u.0 }
+    // Each step loads four words that are written once.
     ensures loads { seat.new.me.0.once_loads + 4 * steps.old
         ≡ seat.old.me.0.once_loads + 4 * steps.new }
-    // With b binary digits of the greater depth plus one, at most 16b + 16 steps.
+    // With b binary digits of the greater depth of the two tasks, plus one, it makes at most 16b +
+    // 16 steps. A task's depth is the length of its name.
     ensures cost { IsWithinCost seat.new.me.0.born t.0 u.0 steps.old steps.new }
 {
     order_is_that_of_names();

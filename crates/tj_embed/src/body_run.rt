@@ -25,10 +25,11 @@ pub fn run_outcome<B: Body, R: Wait + Threads + Sync>(
 ) -> Result<Outcome, RunFault>
     requires limits { AreLimits options }
     requires root { IsFresh B.places B.awaits B.left 1 root }
+    // Of a body of one's own, whose root is fresh, the outcome is that of the meaning.
     ensures outcome { let p = program_of B.places B.awaits B.left B.asks B.then options.strict root
         in IfOk result (IsOutcome (meaning p options.cells)) }
 
-    // It is full exactly where the meaning needs more cells.
+    // Where there is an outcome, the meaning isn't full, and Full comes only where it is.
     ensures fits { let p = program_of B.places B.awaits B.left B.asks B.then options.strict root
         in IfOk result (λ _. ¬ IsFull p options.cells) }
     ensures full { let p = program_of B.places B.awaits B.left B.asks B.then options.strict root

@@ -29,6 +29,8 @@ pub struct Options {
 impl Options {
     /// What the program `tj` takes where its words say nothing else.
     pub fn usual() -> Options
+        // The options that stand where nothing else is said are within the limits: four workers,
+        // 4,096 cells, 100,000 statements a task, no strict rule.
         ensures limits { AreLimits result }
         ensures exact { result ≡ record {
           workers = 4;

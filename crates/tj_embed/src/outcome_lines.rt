@@ -11,6 +11,7 @@ use tj_mean::{LinkList, Outcome, TaskLine};
 
 /// The line of the task with this name.
 pub fn line_of<'o>(outcome: &'o Outcome, name: &Name) -> Option<&'o TaskLine>
+    // It is the first line with this name, and None where no line has it.
     ensures { option_map (λ line. line.now) result
         ≡ find (λ line. same line.name name.now) outcome.now.lines }
 {
@@ -19,6 +20,7 @@ pub fn line_of<'o>(outcome: &'o Outcome, name: &Name) -> Option<&'o TaskLine>
 
 /// The cycle of waits that the task with this name is on.
 pub fn cycle_with<'o>(outcome: &'o Outcome, name: &Name) -> Option<&'o LinkList>
+    // It is the first cycle with a task of this name, and None where no cycle has it.
     ensures { option_map (λ cycle. cycle.now) result
         ≡ find (λ cycle. list_any (λ link. same link.task name.now) cycle) outcome.now.cycles }
 {
@@ -38,6 +40,7 @@ fn is_on(cycle: &LinkList, name: &Name) -> bool
 
 /// The lines of the tasks that ended before they had set each promise that they owned.
 pub fn owing<'o>(alloc: Global, outcome: &'o Outcome) -> Result<Vec<&'o TaskLine>, Oom>
+    // They are the lines of the tasks that owe, in name order.
     ensures { IfOk result (λ lines. map (λ line. line.now) lines.items
         ≡ filter (λ line. not (is_nil line.owes)) outcome.now.lines) }
 {

@@ -57,9 +57,12 @@ pub fn run_script<'s, R: Wait + Threads + Sync>(
 ) -> Result<ScriptRun<'s>, RunFault>
     requires limits { AreLimits options }
     requires script { IsSomeScript (shown.script script.now) }
+    // A run of a script began with the body of its `main`, the given limit of cells and the given
+    // rule.
     ensures run { IfOk result (IsRunOf (shown.script script.now) options) }
 
-    // It is full exactly where the script needs more cells.
+    // Where there is a run, its meaning isn't full, and Full comes only where the script needs more
+    // cells.
     ensures fits { IfOk result (λ run. ¬ IsFull (script_program run.strict run.root) run.limit) }
     ensures full { IfErr result (λ fault. fault ≡ RunFault.Full
         → NeedsMore (shown.script script.now) options) }
@@ -73,6 +76,8 @@ pub fn run_script<'s, R: Wait + Threads + Sync>(
 pub fn plan_script(alloc: Global, script: &Script, options: Options) -> Result<Outcome, PlanFault>
     requires limits { AreLimits options }
     requires script { IsSomeScript (shown.script script.now) }
+    // On one thread the outcome is that of the meaning of the script with these options. Full comes
+    // only where the script needs more cells.
     ensures outcome { IfOk result (IsOutcomeOfScript (shown.script script.now) options) }
     ensures full { IfErr result (λ fault. fault ≡ PlanFault.Full
         → NeedsMore (shown.script script.now) options) }
@@ -84,6 +89,7 @@ pub fn plan_script(alloc: Global, script: &Script, options: Options) -> Result<O
 impl<'s> ScriptRun<'s> {
     /// What became of each task, and each cycle of waits.
     pub fn outcome(&self, alloc: Global) -> Result<Outcome, Oom>
+        // The outcome of a run is that of the meaning of what it began with.
         ensures { IfOk result (IsOutcomeOfRun self.now) }
     {
         outcome_of(alloc, &self.rest)
@@ -91,6 +97,7 @@ impl<'s> ScriptRun<'s> {
 
     /// The report of the outcome, as `tj run` writes it.
     pub fn report(&self, alloc: Global) -> Result<Vec<u8>, Oom>
+        // The report of a run is that of such an outcome.
         ensures { IfOk result (λ text. IsReportOfRun self.now text.items) }
     {
         Ok(report_at_rest(alloc, &self.rest)?.text)
@@ -98,6 +105,7 @@ impl<'s> ScriptRun<'s> {
 
     /// Whether a task failed, owes or waits.
     pub fn is_marked(&self, alloc: Global) -> Result<bool, Oom>
+        // A run is marked where such an outcome is.
         ensures { IfOk result (λ is. (outcome : Outcome) × IsOutcomeOfRun self.now outcome
             × (is ≡ is_marked outcome)) }
     {
@@ -107,6 +115,8 @@ impl<'s> ScriptRun<'s> {
     /// What the words of the table show of its cells, at rest: each cycle of waits has a member that
     /// has alarmed, and each task that has alarmed is on one.
     pub fn into_closed(self) -> Closed
+        // The closed words of a run are those of its table, at rest. Each cycle of waits has a
+        // member that has alarmed, and each task that has alarmed is on one.
         ensures words { result ≡ self.entry.cells }
         ensures rest { AreAtRest result }
         ensures cycles { AreCyclesAlarmed result }

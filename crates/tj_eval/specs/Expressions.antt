@@ -46,6 +46,7 @@ applied op.Plus a b = exact (a +ℤ b)
 applied op.Minus a b = exact (a -ℤ b)
 applied op.Times a b = exact (a *ℤ b)
 applied op.Over a b = if is_zero b then Err trouble.Arith else exact (int_div a b)
+-- `%` fails with Arith where `/` does, if the quotient doesn't fit
 applied op.Rest a b = if is_zero b || not (is_i64 (int_div a b)) then Err trouble.Arith else Ok (pay.Num (int_rem a b))
 
 -- whether the comparison holds

@@ -28,6 +28,7 @@ gives_no_get (tree.result_of e) = true
 
 abbrev mutual
   -- no get stands in the statement
+  -- it asks nothing of the answers, so the law holds for all of them
   pub has_no_get : Statement → Bool
   has_no_get (tree.let_new x given) = gives_no_get given
   has_no_get (tree.assign x given) = gives_no_get given

@@ -16,6 +16,7 @@ use Rattle.tj_syntax.specs.Faults.{main_of}
 use Rattle.tj_eval.specs.Bodies.{IsMainBody, script_places, script_awaits, script_left, script_asks, script_then}
 
 -- the numbers of a block's own statements, of which the first has number n
+-- a count and no path through the blocks: one list of positions, in the order of the text, serves a declaration
 abbrev pub numbers : ℕ → Statements → List ℕ
 numbers n tree.no_more = []
 numbers n (tree.then_do s more) = n ∷ numbers (n + length (inside s)) more

@@ -27,10 +27,14 @@ use tj_syntax::{Decl, Expr, Script};
 pub const MAX_STEPS: u32 = 1_000_000;
 
 /// The body of the script's task `main`, each of whose tasks makes at most so many statements.
+// It asks that some tokens are the script, and not which: a caller hands on `ok` of `parse`.
 pub fn main_body<'s>(alloc: Global, script: &'s Script, steps: u32) -> Result<ScriptBody<'s>, Oom>
     requires steps { (0 < steps) × (steps ≤ MAX_STEPS) }
     requires script { (tokens : List Tok) × IsScript tokens (view.script script.now) }
+    // The body is that of the script's task `main`, each of whose tasks may begin so many
+    // statements.
     ensures main { IfOk result (IsMainBody (view.script script.now) steps) }
+    // It has asked nothing yet and has one place.
     ensures fresh { IfOk result (IsFresh script_places script_awaits script_left 1) }
 {
     let body = task_of(alloc, script, steps, main_task(script), Vec::new(alloc), 0)?;
@@ -201,6 +205,7 @@ impl<'s> State<'s> {
 impl ScriptBody<'_> {
     /// How many places its task has: a new reference gets this number.
     pub fn places(&self) -> u32
+        // A body tells how many places its task has, so that a caller knows which answers fit.
         ensures { result ≡ script_places self.now }
     {
         self.state.places

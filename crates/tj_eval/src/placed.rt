@@ -28,6 +28,7 @@ use tj_body::{Answer, Ask, Body};
 use tj_syntax::{Decl, Script, Stmt};
 
 /// A body that runs one task of a script, and knows where it stands.
+// Out of memory it becomes one that has ended, so its numbers always are those of what remains.
 #[derive(Drop)]
 pub struct PlacedBody<'s> {
     pub(crate) inner: Standing<'s>,
@@ -283,8 +284,12 @@ pub fn placed_main<'s>(
     requires steps { (0 < steps) × (steps ≤ MAX_STEPS) }
     requires script { (tokens : List Tok) × IsScript tokens (view.script script.now) }
     requires sizes { sizes.now ≡ sizes_of (view.script script.now) }
+    // The body that knows where it stands is that of the script's task `main`, each of whose tasks
+    // may begin so many statements, at the beginning of that declaration.
     ensures main { IfOk result (IsPlacedMain (view.script script.now) steps) }
+    // It has asked nothing yet and has one place.
     ensures fresh { IfOk result (IsFresh placed_places placed_awaits placed_left 1) }
+    // The numbers ahead of it are those of the declaration's statements and of the closing brace.
     ensures right { IfOk result StandsRight }
 {
     let f = main_number(script);
@@ -296,6 +301,7 @@ pub fn placed_main<'s>(
 impl PlacedBody<'_> {
     /// The declaration that its task runs.
     pub fn decl(&self) -> usize
+        // It tells the declaration that its task runs.
         ensures { result ≡ self.now.stand.decl }
     {
         self.inner.home.decl
@@ -303,6 +309,7 @@ impl PlacedBody<'_> {
 
     /// How many places its task has: a new reference gets this number.
     pub fn places(&self) -> u32
+        // It tells how many places its task has.
         ensures { result ≡ placed_places self.now }
     {
         self.inner.body.places
@@ -310,6 +317,7 @@ impl PlacedBody<'_> {
 
     /// The number of the statement at which it stands, or that of the closing brace.
     pub fn at(&self) -> usize
+        // It tells the number of the statement that has begun last, or that of the closing brace.
         ensures { result ≡ self.now.stand.at }
     {
         self.inner.numbers.at

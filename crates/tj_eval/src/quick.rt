@@ -11,6 +11,7 @@ use tj_syntax::{Expr, Op};
 
 /// The number that the expression comes to, if it is one. A variable, a number and the operators of a
 /// chain are read without a further call.
+// It gives a number or nothing: a value or a fault takes memory, and is computed anew.
 #[inline(always)]
 pub(crate) fn quick(vars: &[Pay], e: &Expr) -> Option<i64>
     ensures { IfSome result (λ n. meaning.value vars.now (expression e.now) ≡ Ok (pay.Num n)) }

@@ -19,6 +19,7 @@ pub(crate) struct Size {
 }
 
 /// The sizes of a script's statements. Each has its own, so that a number of a statement is an index.
+// Counted once for a script: a loop over a large block that isn't taken would pay in each turn.
 #[derive(Drop)]
 pub struct Sizes {
     decls: Vec<Vec<Size>>,
@@ -40,6 +41,8 @@ impl Model for Sizes {
 impl Sizes {
     /// The sizes of the script's statements.
     pub fn of(alloc: Global, script: &Script) -> Result<Sizes, Oom>
+        // The sizes are those of the script: of each statement of each declaration how many it is
+        // with those within it, and how many of these stand in its first block.
         ensures { IfOk result (λ sizes. sizes ≡ sizes_of (view.script script.now)) }
     {
         let mut decls = Vec::with_capacity(alloc, script.tasks.len())?;

@@ -38,6 +38,7 @@ abbrev pub MayClose : CoreState → ℕ → ℕ → Type 0
 MayClose s t p = Owns s t p × (p ≡ t → OwnsNothingElse s t)
 
 -- p is a promise that t owns, and c a fresh child of t
+-- a hand to oneself isn't one to a child, though the root is its own maker
 abbrev pub MayHand : CoreState → ℕ → ℕ → ℕ → Type 0
 MayHand s t p c = (stage s.cells p ≡ promise) × Owns s t p × IsFreshChild s t c
 

@@ -4,6 +4,7 @@
 //! Cells stand here by their numbers, which clauses compare.
 
 /// The way of a wait.
+// A type of the code, with cells as numbers, since the views of workers hold it.
 #[derive(Clone, Copy, Debug, PartialEq, Eq)]
 pub enum Way {
     /// A join of a task that the waiter is before in the fork order.
@@ -56,6 +57,8 @@ impl LastRead {
 
     /// Whether the number of cells is read next, on a wait of this way.
     pub fn before_count(self, way: Way) -> bool
+        // A walk reads the number of cells next exactly where it has just published an other wait,
+        // or has read OTHERS, and not as 0.
         ensures { IsTrue result ↔ (((way ≡ Way.Other) × (self ≡ LastRead.Published))
             ⊎ ((n : ℕ) × (self ≡ LastRead.SawOthers n) × (0 < n))) }
     {
@@ -68,6 +71,8 @@ impl LastRead {
 
     /// Whether an owner is read next, after so many passed owners under this bound.
     pub fn before_owner(self, passed: usize, bound: u32) -> bool
+        // It reads an owner next exactly where it has just read the number of cells, or has passed
+        // an owner, and fewer than its bound.
         ensures { IsTrue result
             ↔ ((self ≡ LastRead.Counted) ⊎ ((self ≡ LastRead.Passed) × (passed < bound))) }
     {
@@ -80,6 +85,8 @@ impl LastRead {
 
     /// Whether it is read next what the owner waits for, on a walk of task t.
     pub fn before_wait(self, t: u32) -> bool
+        // It reads what the owner waits for next exactly where it has just read an owner other than
+        // its own task.
         ensures { IsTrue result ↔ ((u : ℕ) × (self ≡ LastRead.SawOwner (Some u)) × (u ≢ t)) }
     {
         match self {
@@ -90,6 +97,7 @@ impl LastRead {
 
     /// Whether the walk ends after so many passed owners under this bound.
     pub fn ends_walk(self, passed: usize, bound: u32) -> bool
+        // It ends next exactly where the rules let it settle.
         ensures { IsTrue result ↔ EndsWalk passed bound self }
     {
         match self {

@@ -45,11 +45,18 @@ pub fn run_watched<B: Body, P: Pool, G: Gate, R: Wait + Threads + Sync>(
     requires cells { (0 < cells) × (cells ≤ MAX_CELLS) }
     requires workers { (0 < workers) × (workers ≤ 64) }
     requires root { IsFresh B.places B.awaits B.left 1 root }
+    // With `Ok` the table rests at the meaning of the root without the strict rule, as of
+    // `tj_run::run_all`.
     ensures rest { IfOk result (λ out. RestsAt (program_of B.places B.awaits B.left B.asks B.then)
         root cells false out.1) }
+    // What is told of the root is what its record says, and nothing else: its value where it
+    // finished with one, Broken where it failed, Rested where it has no ending; so Stopped isn't
+    // told.
     ensures watched { IfOk result (λ out. IsRootWatched out.1.records out.0) }
+    // Then the meaning isn't full.
     ensures fits { IfOk result (λ _. ¬ IsFull
         (program_of B.places B.awaits B.left B.asks B.then false root) cells) }
+    // Full comes only where the meaning is full. So, want of memory aside, it comes exactly there.
     ensures full { IfErr result (λ fault. fault ≡ RunFault.Full → IsFull
         (program_of B.places B.awaits B.left B.asks B.then false root) cells) }
 {

@@ -6,5 +6,9 @@ ghost use Rattle.tj_future.specs.LooksStand.{LooksStand};
 /// is at rest, whatever calls were made in between. So a watch of the root is answered what
 /// `run_watched` tells.
 pub fn looks_stand<B>()
+    // What looks at the result of a task were answered is what the task's record says where a seat
+    // may close the table, whatever calls that are asked for, splits and merges of idle seats come
+    // in between. For Rested this is so where TAG of the cell was 0 when that was answered. What
+    // Stopped says is no matter of the cell.
     ensures { LooksStand B }
 {}

@@ -18,20 +18,39 @@ use tj_words::{Fill, Laid, WSeat, rested_runs};
 
 /// One look at cell `p`: it loads TAG, and where that is 0 then STOP, and where that is 0 then LIVE, and
 /// where that is 0 TAG again. It answers nothing where LIVE is above 0.
+// It gives the answer alone; what was loaded, and in which order, stands in the seat's view.
 pub fn look_at<B: Body>(laid: &Laid<B>, seat: &mut WSeat<B>, p: CellId) -> Option<Watched>
     requires table { IsSeatOf laid.now seat.old }
     requires cell { IsCellOf laid.now p.0 }
     requires idle { IsIdle seat.old.me.0 }
     requires slots { seat.old.me.1 ≡ [] }
+    // The seat is the same one of the same table, with the same slots.
     ensures seat { IsSameSeat seat.old seat.new }
+    // It may be merged again: it holds no task and has nothing to come,
     ensures idle { IsIdle seat.new.me.0 }
+    // nor has it a slot.
     ensures slots { seat.new.me.1 ≡ [] }
+    // It has the lot that it came with.
     ensures lot { seat.new.me.0.lot ≡ seat.old.me.0.lot }
+    // Nothing is answered only where TAG of this cell was loaded as 0, then STOP as 0, and then
+    // LIVE above 0; STOP and LIVE were so in some table under the law in which a seat has the view
+    // at that load.
     ensures none { result ≡ None → GoesOn (program_of B.places B.awaits B.left B.asks B.then) p.0
         seat.old.me.0 seat.new.me.0 }
+    // A value or Broken comes only where the words of this cell say so: what it says is what
+    // becomes of the cell in some round of the program, for good, and the seat knows it from then
+    // on; it was read at once, or after LIVE was loaded as 0. Where it is Rested, LIVE was found to
+    // be 0, and a load of TAG of this cell that came later found 0; from that moment on no step
+    // call, split or merge makes TAG other than 0, so the cell never gets a value. Where it is
+    // Stopped, the word for why was found in STOP; and the meaning is full where that is the one
+    // for full. What was found in STOP and LIVE stood there in some table under the law in which a
+    // seat has the view at that load.
     ensures some { IfSome result (λ watched. Answers (program_of B.places B.awaits B.left B.asks
         B.then) laid.now.cells p.0 watched seat.old.me.0 seat.new.me.0) }
-    // These loads are the call's, in this order, and it makes no other step.
+    // The call is these loads, in this order, and no other step: TAG of this cell as 0, then STOP
+    // as 0, and then LIVE above 0, where nothing is answered; these with LIVE as 0, and then TAG as
+    // 0, for Rested; TAG as 0 and then STOP as the word for why, for Stopped; TAG and BITS for a
+    // value or Broken, at once or after TAG, STOP and LIVE were loaded as 0 each.
     ensures log { MakesLook p.0 result seat.old seat.new }
 {
     rested_runs::<B>();
@@ -81,6 +100,7 @@ const LONGEST: u64 = 16;
 
 /// Looks at cell `p` until it is answered. Between two looks it sleeps, for no longer than `LONGEST`,
 /// while TAG of the cell is 0.
+// No measure and no number of looks, after which it would have no answer.
 pub fn watch<B: Body, R: Wait>(
     rt: &R,
     laid: &Laid<B>,
@@ -91,10 +111,16 @@ pub fn watch<B: Body, R: Wait>(
     requires cell { IsCellOf laid.now p.0 }
     requires idle { IsIdle seat.me.0 }
     requires slots { seat.me.1 ≡ [] }
+    // The seat that comes back is one of the same table.
     ensures table { result.1.table_id ≡ seat.table_id }
+    // It may be merged again,
     ensures idle { IsIdle result.1.me.0 }
+    // and has no slot.
     ensures slots { result.1.me.1 ≡ [] }
+    // It has the lot that it came with.
     ensures lot { result.1.me.0.lot ≡ seat.me.0.lot }
+    // The answer is that of the last look, as `look_at` says it; the seat had known by then all
+    // that it knew before.
     ensures answer { IsWatched (program_of B.places B.awaits B.left B.asks B.then) laid.now.cells
         p.0 result.0 seat.me.0 result.1.me.0 }
 {

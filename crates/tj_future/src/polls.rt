@@ -30,6 +30,7 @@ pub trait Polled: Body {
         requires cell { IsCellOf laid.now p.0 }
         requires idle { IsIdle seat.old.me.0 }
         requires slots { seat.old.me.1 ≡ [] }
+        // A look by the body's own `impl`: its clauses are those of `look_at` but for `log`.
         ensures seat { IsSameSeat seat.old seat.new }
         ensures idle { IsIdle seat.new.me.0 }
         ensures slots { seat.new.me.1 ≡ [] }
@@ -60,6 +61,7 @@ impl<'s> Polled for ChanBody<TableChat<'s>> {
 }
 
 /// A wait for a cell. It has its seat until a poll is ready.
+// A poll asks to be polled again: a waker would be a value that the table holds and a set wakes.
 #[derive(Drop)]
 pub struct CellWait<'a, B: Body> {
     laid: &'a Laid<B>,
@@ -74,9 +76,13 @@ impl<'a, B: Body> CellWait<'a, B> {
         requires cell { IsCellOf laid.now p.0 }
         requires idle { IsIdle seat.me.0 }
         requires slots { seat.me.1 ≡ [] }
+        // The wait has this table,
         ensures laid { result.laid.now ≡ laid.now }
+        // this seat
         ensures seat { result.seat ≡ Some seat }
+        // and this cell.
         ensures cell { result.p ≡ p }
+        // It may be polled.
         ensures may { MayPoll result.laid.now result.seat result.p.0 }
     {
         CellWait {
@@ -89,9 +95,14 @@ impl<'a, B: Body> CellWait<'a, B> {
     /// Gives the seat back before a poll is ready. There is no wait any more then.
     pub fn into_seat(self) -> WSeat<B>
         requires may { MayPoll self.laid.now self.seat self.p.0 }
+        // Before it is ready a wait gives back the very seat that it has.
         ensures seat { Some result ≡ self.entry.seat }
+        // This is one of the table,
         ensures table { IsSeatOf self.entry.laid.now result }
+        // it may be merged,
         ensures idle { IsIdle result.me.0 }
+        // and has no slot. Its lot is the one with which the wait was made, by `new` `seat` and by
+        // `pending` of each poll.
         ensures slots { result.me.1 ≡ [] }
     {
         match self.seat {
@@ -111,22 +122,30 @@ impl<'a, B: Polled> Future for CellWait<'a, B> {
 
     fn poll(&mut self, cx: &mut Context<'_>) -> Poll<(Watched, WSeat<B>)>
         requires { MayPoll self.old.laid.now self.old.seat self.old.p.0 }
+        // A ready poll gives the seat back: one of the same table, which may be merged, with its
+        // lot; and the answer of the last look, as of `watch`.
         ensures value { IfReady result (λ given. IsGiven (program_of B.places B.awaits B.left B.asks
             B.then) self.old.laid.now self.old.seat self.old.p.0 given.0 given.1) }
-        // It is ready with what this look answered.
+        // It is ready with what the look of this poll answered.
         ensures looked { IfReady result (λ given. IsSomeAnd self.old.seat (λ seat. Answers
             (program_of B.places B.awaits B.left B.asks B.then) self.old.laid.now.cells self.old.p.0
             given.0 seat.me.0 given.1.me.0)) }
-        // It is pending only where this look answered nothing, and it has yielded then.
+        // It is pending only where the look of this poll answered nothing; the wait has its seat
+        // again, with its lot.
         ensures pending { OnPending result (StillWaits (program_of B.places B.awaits B.left B.asks
             B.then) self.old.p.0 self.old.seat self.new.seat) }
+        // It has yielded then, through its context.
         ensures yielded { OnPending result (cx.new.is_woken ≡ true) }
+        // It may be polled again.
         ensures again { OnPending result (MayPoll self.new.laid.now self.new.seat self.new.p.0) }
+        // What the wait gives then is what it was to give before.
         ensures same { OnPending result ((given : Watched × SeatShown (Option (Rec B)) (View B)) → IsGiven
             (program_of B.places B.awaits B.left B.asks B.then) self.new.laid.now self.new.seat
             self.new.p.0 given.0 given.1 → IsGiven (program_of B.places B.awaits B.left B.asks
             B.then) self.old.laid.now self.old.seat self.old.p.0 given.0 given.1) }
+        // It waits for no source.
         ensures registered { OnPending result (Covers cx.new (λ _. ⊥)) }
+        // What was true of the context until the poll's end stays so.
         ensures kept { Keeps cx.old cx.new }
     {
         let Some(mut seat) = self.seat.take() else {

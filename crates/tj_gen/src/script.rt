@@ -23,6 +23,7 @@ const TAIL: &[u8] = b"  set a = 0;\n  let v = get p;\n  print v;\n  return v;\n}
 /// The script of this size, in its canonical listing.
 pub fn gen_script(alloc: Global, size: u32) -> Result<Vec<u8>, Oom>
     requires { (0 < size) × (size ≤ MAX_SIZE) }
+    // The text is the stated one of the given size, for sizes from 1 to 4,000.
     ensures { IfOk result (λ text. text.items ≡ script_text size) }
 {
     let mut text = Vec::from_slice(alloc, HEAD)?;

@@ -15,14 +15,16 @@ use tj_base::{Items, Name, Oom, path_before};
 use tj_mean::{Act, ActLine, ActLines};
 
 /// A line for each join, in the order of tasks and acts.
+// It asks of the lines what it needs, and not that `acts` gave them for some body.
 pub fn known_joins(alloc: Global, lines: &ActLines) -> Result<KnownList, Oom>
     requires { AreActLines lines.now }
 
-    // It is `Known` exactly where its task knew the joined one, and of the others `Along` exactly
-    // where its task is before that one.
+    // For each join of the lines there is a line, in the order of tasks and acts. It is `Known`
+    // exactly where its task knew the joined one, and of the others `Along` exactly where its task
+    // is before that one.
     ensures joins { IfOk result (AreTold lines.now (joins_in lines.now)) }
 
-    // Each known join is along the fork order.
+    // Each join that is told as `Known` has its task before the joined one in the fork order.
     ensures known { IfOk result KnownAreAlong }
 {
     known_is_along();

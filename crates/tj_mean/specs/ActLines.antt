@@ -30,6 +30,7 @@ module _ (lines : List ActLine) where
 -- The first n acts of a task can be worked off, each after those that it follows from: the root begins at once, and a
 -- child after the acts before its fork; a fork and a join that isn't answered wait for nothing; an answered join comes
 -- after all acts of the joined task.
+-- a relation and no list in that order, which a proof that goes by turns would have to walk
 pub data CanReach (lines : List ActLine) : Name → ℕ → Type 0 where
   root_begins : CanReach lines [] zero
   child_begins : (t c : Name) (n : ℕ) → HasAct lines t n (act.Fork c) → CanReach lines t n → CanReach lines c zero

@@ -30,16 +30,22 @@ pub fn acts<B: Body>(alloc: Global, root: &B, cells: u32) -> Result<ActLines, Pl
     requires root { IsFresh B.places B.awaits B.left 1 root.now }
     requires cells { (0 < cells) × (cells ≤ MAX_CELLS) }
 
-    // `Full` comes exactly where the meaning needs more than `cells` cells.
+    // Such lines come only where the meaning fits in `cells` cells.
     ensures fits { let p = program_of B.places B.awaits B.left B.asks B.then false root.now in
         IfOk result (λ _. ¬ rounds.IsFull p cells) }
+    // `Full` comes only where it doesn't fit.
     ensures full { let p = program_of B.places B.awaits B.left B.asks B.then false root.now in
         IfErr result (λ e. e ≡ PlanFault.Full → rounds.IsFull p cells) }
+    // The lines are those of the meaning without the strict rule: one for each of its tasks, in
+    // name order, with the task's forks, and its joins that are of a task, in the order in which it
+    // does them; a join is told as answered exactly where the joined task's result was set or
+    // broken.
     ensures acts { let p = program_of B.places B.awaits B.left B.asks B.then false root.now in
         IfOk result (AreActsOf p cells) }
 
-    // What is forked or joined is one of the tasks, and there is an order in which all acts can be
-    // worked off.
+    // A task forks its own children, each with a greater number than those before; what is forked
+    // or joined has a line; and there is an order in which all acts can be worked off: a child's
+    // after its fork, and an answered join after all acts of the joined task.
     ensures lines { IfOk result AreActLines }
 {
     acts_can_be_worked_off::<B>();

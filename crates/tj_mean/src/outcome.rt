@@ -81,6 +81,7 @@ impl From<Oom> for PlanFault {
 
 /// Whether a task failed, owes or waits, or a cycle stands.
 pub fn marked(o: &Outcome) -> bool
+    // True comes exactly where a task failed, owes or waits, or a cycle stands.
     ensures { result ≡ is_marked o.now }
 {
     !o.cycles.items().is_empty() || has_troubled(o.lines.items())

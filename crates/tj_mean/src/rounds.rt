@@ -29,6 +29,7 @@ use tj_base::{Name, Oom};
 use tj_body::{Body, Entry, Point};
 
 /// The outcome of the meaning of this root's program.
+// It answers Full in the middle of a history, which may be long.
 pub fn plan<B: Body>(
     alloc: Global,
     root: &B,
@@ -38,15 +39,18 @@ pub fn plan<B: Body>(
     requires root { IsFresh B.places B.awaits B.left 1 root.now }
     requires cells { (0 < cells) × (cells ≤ MAX_CELLS) }
 
-    // `Full` comes exactly where the meaning needs more than `cells` cells.
+    // An outcome comes only where the meaning fits in `cells` cells.
     ensures fits { let p = program_of B.places B.awaits B.left B.asks B.then strict root.now in
         IfOk result (λ _. ¬ rounds.IsFull p cells) }
+    // `Full` comes only where it doesn't fit.
     ensures full { let p = program_of B.places B.awaits B.left B.asks B.then strict root.now in
         IfErr result (λ e. e ≡ PlanFault.Full → rounds.IsFull p cells) }
+    // The outcome is that of the meaning: a line for each history, in name order, and exactly the
+    // cycles of its wait graph, each once, from its least name on, in the order of these names.
     ensures outcome { let p = program_of B.places B.awaits B.left B.asks B.then strict root.now in
         IfOk result (IsOutcome (rounds.meaning p cells)) }
 
-    // Where a task waits, a cycle stands.
+    // Where a task of the outcome waits, a cycle stands.
     ensures waits { IfOk result HasCycleWhereWaits }
 {
     meaning_is_apart::<B>();
@@ -67,11 +71,14 @@ pub fn bodies<B: Body>(
     requires root { IsFresh B.places B.awaits B.left 1 root.now }
     requires cells { (0 < cells) × (cells ≤ MAX_CELLS) }
 
-    // `Full` comes exactly where the meaning needs more than `cells` cells.
+    // It comes only where the meaning fits in `cells` cells.
     ensures fits { let p = program_of B.places B.awaits B.left B.asks B.then strict root.now in
         IfOk result (λ _. ¬ rounds.IsFull p cells) }
+    // `Full` comes only where it doesn't fit.
     ensures full { let p = program_of B.places B.awaits B.left B.asks B.then strict root.now in
         IfErr result (λ e. e ≡ PlanFault.Full → rounds.IsFull p cells) }
+    // What is told of the tasks with their bodies is told of the meaning's histories, in some
+    // order: of each its line, the promises that it holds and what its body is where it stopped.
     ensures told { let p = program_of B.places B.awaits B.left B.asks B.then strict root.now in
         IfOk result (λ tasks. AreBodiesOf (rounds.meaning p cells) tasks.items) }
 {

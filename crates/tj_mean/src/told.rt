@@ -11,8 +11,12 @@ use std::alloc::Global;
 use tj_base::{Items, Oom, name_cmp};
 
 /// The outcome of these tasks.
+// The tasks come in any order: who tells them needn't sort them.
 pub fn outcome_of(alloc: Global, tasks: Vec<Stopped>) -> Result<Outcome, Oom>
     requires { AreApart tasks.items }
+    // The outcome of tasks that have stopped, of which no two have one name and none owns what
+    // another owns, is what their lines and waits tell: a line for each, in name order, and exactly
+    // the cycles, each once, from its least name on, in the order of these names.
     ensures { IfOk result (IsOutcomeOf tasks.items) }
 {
     let tasks = in_name_order(tasks)?;

@@ -37,7 +37,11 @@ pub fn cycles(alloc: Global, tasks: &[Stopped]) -> Result<CycleList, Oom>
 /// whichever tasks in name order lead to each other so, their cycles are these.
 pub fn cycles_by(alloc: Global, next: &[Option<usize>]) -> Result<IndexCycles, Oom>
     requires { (i j : ℕ) → Next next.now i j → j < length next.now }
+    // Each index of the answer leads to some index.
     ensures on { IfOk result (λ cycles. All (λ c. All (LeadsOn next.now) c) cycles) }
+    // Whichever tasks in name order lead to each other so, of which no two have one name and none
+    // owns what another owns: the cycles are theirs, exactly, each once, from its least name on, in
+    // the order of these names.
     ensures cycles { IfOk result (λ cycles. (tasks : List Stopped) → AreApart tasks
         → Ascend (map (λ s. s.line.name) tasks) → AreNext tasks tasks next.now
         → AreCycles tasks (map (map (link_at tasks)) cycles)) }

@@ -22,6 +22,7 @@ use tj_base::Oom;
 use tj_command::number_up_to;
 
 /// What the words ask for.
+// Each variant has what its mode has, and no more.
 #[derive(Clone, Copy)]
 pub enum Command {
     Run {
@@ -72,6 +73,8 @@ struct Numbers {
 
 /// The command that the words are, or None where they have no form.
 pub fn command_of(alloc: Global, words: &[String]) -> Result<Option<Command>, Oom>
+    // It is what the words ask for by the form of the command line, and None exactly where they
+    // have none.
     ensures { IfOk result (λ found. MatchOption found (HasNoForm words.now) (IsCommand words.now)) }
 {
     if !are_line_words(words) {

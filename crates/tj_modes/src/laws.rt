@@ -25,6 +25,7 @@ use tj_mean::{acts_can_be_worked_off, one_outcome, strict_outcome_has_no_wait};
 
 /// Words and an input have one output at most: one status and one text.
 pub fn one_output()
+    // Law: words and an input have one output at most: one status and one text.
     ensures { (words : List (String Global)) (input : List ℕ) (a b : Status) (s t : List ℕ)
         → IsOutput words input a s → IsOutput words input b t → (a ≡ b) × (s ≡ t) }
 {
@@ -48,6 +49,9 @@ fn one_relay()
 /// No outcome of a script without the keyword `get` has a cycle or a task that waits, where it runs
 /// under the strict rule.
 pub fn strict_runs_never_wait()
+    // Law, for each command within its limits and each input: if a script without the keyword `get`
+    // runs under the strict rule, and its tasks may begin at most 1,000,000 statements each, no
+    // outcome of its run has a cycle or a task that waits.
     ensures { (command : Command) (input : List ℕ) → HasLimits command
         → StrictRunsNeverWait command input }
 {
@@ -59,6 +63,8 @@ pub fn strict_runs_never_wait()
 
 /// Each join that `known` tells as known is along the fork order.
 pub fn known_joins_are_along()
+    // Law: of each command `known` within its limits and each input whose meaning isn't full: each
+    // join that is told as known is along the fork order.
     ensures { (cells steps : ℕ) (input : List ℕ) → HasLimits (Command.Known cells steps)
         → (start : Start) → IsStart (Command.Known cells steps) input start
         → KnownJoinsOfMeaningAreAlong start }

@@ -26,6 +26,8 @@ pub fn output_of(alloc: Global, command: Command, input: &ReadEnd) -> Result<Out
     requires alone { has_workers command ≡ false }
     requires limits { HasLimits command }
     requires within { IsWithin most_bytes input.now }
+    // What a mode without workers gives is the output of its command for every input of which this
+    // was read.
     ensures { IfOk result (λ output. (all : List ℕ) → HasRead command all input.now
         → IsCommandOutput command all output.status output.text.items) }
 {
@@ -84,6 +86,8 @@ fn listing(alloc: Global, input: &ReadEnd) -> Result<Output, Oom>
 
 /// The line of the fault.
 pub fn refused(alloc: Global, fault: NoScript) -> Result<Output, Oom>
+    // Of a script that is refused the status is Script and the text is the line of its fault, and
+    // there is none for want of memory.
     ensures status { IfOk result (λ output. output.status ≡ Status.Script) }
     ensures text { IfOk result (λ output.
         output.text.items ≡ script_texts.fault_line fault) }

@@ -33,6 +33,7 @@ fn ending_line(alloc: Global, ending: &Ending) -> Result<Vec<u8>, Oom>
 
 /// The line of a root that ended with this value.
 pub fn done_line(alloc: Global, value: &Shown) -> Result<Vec<u8>, Oom>
+    // The line of a root that ended with this value is the stated one.
     ensures { IfOk result (λ line. line.items ≡ spec.ending_line (ending.Done value.now)) }
 {
     let mut line = Vec::from_slice(alloc, b"root ")?;

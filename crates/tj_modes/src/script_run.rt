@@ -44,6 +44,8 @@ pub fn run_by_rounds(alloc: Global, script: &Script, limits: Limits) -> Result<O
 
 /// What is written of an outcome.
 pub fn ended(alloc: Global, told: Told, outcome: &Outcome) -> Result<Output, Oom>
+    // Of an outcome the status says whether it is marked, and the text is that of the outcome as it
+    // is told.
     ensures status { IfOk result (λ output.
         output.status ≡ runs.status_of (is_marked outcome.now)) }
     ensures text { IfOk result (λ output. output.text.items ≡ runs.text_of told outcome.now) }
@@ -67,6 +69,7 @@ pub fn text_of(alloc: Global, told: Told, outcome: &Outcome) -> Result<Vec<u8>, 
 
 /// What is written of a run that needs more cells than these.
 pub fn full(alloc: Global, cells: u32) -> Result<Output, Oom>
+    // Of a run that needs more cells the status is Full and the text is the line that says so.
     ensures status { IfOk result (λ output. output.status ≡ Status.Full) }
     ensures text { IfOk result (λ output. output.text.items ≡ texts.full_line cells) }
 {

@@ -34,13 +34,20 @@ pub fn release<B: Body, P: Pool, R: Wait>(
     requires may { MayReleaseChild (program_of B.places B.awaits B.left B.asks B.then) t.0 rec
         seat.old.me.0 }
     requires pool { P.limit pool.old ≡ laid.now.cells }
+    // The seat is one of the same table.
     ensures table { seat.new.table_id ≡ seat.old.table_id }
+    // It is the same seat.
     ensures id { seat.new.id ≡ seat.old.id }
+    // The child has left the seat, and its slot too, whatever the pool answers.
     ensures me { seat.new.me ≡ (released_child t.0 seat.old.me.0, rest seat.old.me.1) }
+    // The pool's limit stays.
     ensures limit { P.limit pool.new ≡ P.limit pool.old }
+    // After `Ok` the pool tells that the child was put into it.
     ensures ok { OnOk result (P.puts pool.old t pool.new) }
+    // After an error the pool tells that it is as it was.
     ensures err { OnErr result (P.same pool.old pool.new) }
-    // These two steps are the call's, whatever the pool answers: LIVE is raised, and PHASE stored as Ready.
+    // The call is two steps, whatever the pool answers: LIVE is raised, and then PHASE of the child
+    // stored as Ready. So after an error the child is ready all the same.
     ensures log { (n : ℕ) × (seat.new.log ≡ entry_of (call.puts_phase t.0) (phase_word Phase.Ready)
         0 (phase_word Phase.Ready) ∷ entry_of call.raises_live 1 0 n ∷ seat.old.log)
         × (seat.new.took ≡ seat.old.took) }

@@ -22,17 +22,27 @@ pub fn claim<B: Body>(laid: &Laid<B>, seat: &mut WSeat<B>, t: CellId) -> Option<
     requires table { IsSeatOf laid.now seat.old }
     requires cell { IsCellOf laid.now t.0 }
     requires knows { KnowsTable seat.old.me.0 }
+    // The seat is one of the same table.
     ensures table { seat.new.table_id ≡ seat.old.table_id }
+    // It is the same seat.
     ensures id { seat.new.id ≡ seat.old.id }
+    // None comes only where the one exchange of this call found the task in another phase than
+    // Ready: in some table under the law a seat has the view before the call while PHASE of the
+    // task is this phase; the seat is as it was, a step later, and its view notes the phase. This
+    // one exchange is the call's only step, and it found this phase.
     ensures none { result ≡ None → (p : Phase) × (p ≢ Phase.Ready)
         × (seat.new.me ≡ (missed t.0 p seat.old.me.0, seat.old.me.1))
         × WasSo (program_of B.places B.awaits B.left B.asks B.then) (phase_at t.0) (phase_word p)
         seat.old.me.0
         × IsLogged (call.swaps_phase t.0) (phase_word Phase.Ready) (phase_word Phase.Running)
         (phase_word p) seat.old seat.new }
+    // The task is the seat's, as its record tells; the record tells a point of the task that is at
+    // its start or has waited for a cell of which the seat knows what has become.
     ensures some { IfSome result (λ r. Claimed (program_of B.places B.awaits B.left B.asks B.then)
         t.0 r seat.old.me.0 seat.new.me.0) }
+    // Its slot is the seat's, and empty.
     ensures slot { IfSome result (λ _. seat.new.me.1 ≡ (t.0, None) ∷ seat.old.me.1) }
+    // The call is one step: the exchange of PHASE from Ready to Running, which found Ready.
     ensures log_some { result ≢ None → IsLogged (call.swaps_phase t.0) (phase_word Phase.Ready)
         (phase_word Phase.Running) (phase_word Phase.Ready) seat.old seat.new }
 {

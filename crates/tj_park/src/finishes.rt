@@ -43,18 +43,31 @@ pub fn finish<B: Body, P: Pool, R: Wait>(
     requires may { MayFinish (program_of B.places B.awaits B.left B.asks B.then) t.0 rec
         seat.old.me.0 }
     requires pool { P.limit pool.old ≡ laid.now.cells }
+    // The seat is one of the same table.
     ensures table { seat.new.table_id ≡ seat.old.table_id }
+    // It is the same seat.
     ensures id { seat.new.id ≡ seat.old.id }
+    // Of which table the seat is stays known, after an error too.
     ensures about { seat.new.me.0.about ≡ seat.old.me.0.about }
+    // What the seat has noted since stands in front of its notes, after an error too.
     ensures notes { IsTailOf seat.old.me.0.notes seat.new.me.0.notes }
+    // The pool's limit stays.
     ensures limit { P.limit pool.new ≡ P.limit pool.old }
+    // After `Ok` the task has left the seat; the seat knows that each promise that it owed is
+    // broken, and that its result is as its record's finish says; nothing is to come for the seat
+    // that wasn't, and its counts are as before.
     ensures ended { OnOk result (HasFinished t.0 rec seat.old.me.0 seat.new.me.0) }
+    // Its slot has left the seat too.
     ensures slots { OnOk result (seat.new.me.1 ≡ rest seat.old.me.1) }
-    // Once no seat holds it, it has ended: its record is home, with the broken promises as owed, and
-    // with nothing owned.
+    // Its record went home: in each table under the law in which a seat has the view that `finish`
+    // leaves, and in which no seat holds the task, PHASE says that it has ended, and a record of it
+    // lies at home that owns nothing, and owes the promises that were broken and no others.
     ensures home { OnOk result (OwesAtHome (program_of B.places B.awaits B.left B.asks B.then) t.0
         (drop 1 rec.owned) seat.new.me.0) }
-    // Those who waited for a promise that it owed, or for its result, were woken as `wake` says.
+    // For each promise that it owed, one after the other, and for its result at last, those who
+    // waited were woken as `wake` says, each once and into the pool; the pool had nothing else done
+    // to it, and the seat has noted nothing but what these wakes note. So each task of which the
+    // seat notes in this call that it was parked was put into the pool once.
     ensures woke { OnOk result (WakesEach P.puts (numbers (drop 1 rec.owned) ++ t.0 ∷ [])
         seat.old.me.0 seat.new.me.0 pool.old pool.new) }
 {

@@ -24,6 +24,7 @@ pub enum Parked<B> {
 
 /// Parks a task whose walk for its wait for `q` has ended without an alarm. `Back` comes only where
 /// this call found the head of the cell's chain shut, and cleared the wait.
+// It takes the cell and the way from its caller, who has both from `block`: the record has no way.
 #[inline(always)]
 pub fn park<B: Body>(
     laid: &Laid<B>,
@@ -40,13 +41,25 @@ pub fn park<B: Body>(
     requires others { HasNoRecord (rest seat.old.me.1) }
     requires may { MayParkTask (program_of B.places B.awaits B.left B.asks B.then) t.0 q.0 way rec
         seat.old.me.0 }
+    // The seat is one of the same table.
     ensures table { seat.new.table_id ≡ seat.old.table_id }
+    // It is the same seat.
     ensures id { seat.new.id ≡ seat.old.id }
+    // The task has left the seat, which has nothing to come and its counts as before; at most 2N +
+    // 6 steps. The seat has found no head shut and at most N chains since (N + 1, if its view names
+    // another N than the table's). A push that fails adds a chain to those found or a cell to those
+    // closed, and the one that was to come succeeds once: so there were at most N + 1 pushes.
     ensures left { IfLeft result (LeftTask laid.now.cells t.0 seat.old.me.0 seat.new.me.0) }
+    // Its slot has left the seat too.
     ensures left_slot { IfLeft result (seat.new.me.1 ≡ rest seat.old.me.1) }
+    // The task runs again with the seat, which knows that the chain of the cell is shut and what
+    // has become of the cell; its counts are as before, and there were at most 2N + 6 steps. The
+    // seat has found the head of this cell shut once, no other, and chains as with `left`: so at
+    // most N + 1 pushes failed.
     ensures back { IfBack result (λ r. GaveBack
         (program_of B.places B.awaits B.left B.asks B.then) laid.now.cells t.0 q.0 r
         seat.old.me.0 seat.new.me.0) }
+    // Its slot is the seat's, and empty.
     ensures back_slot { IfBack result (λ _. seat.new.me.1 ≡ (t.0, None) ∷ rest seat.old.me.1) }
 {
     drop(laid.slot_swap(seat, t, Some(rec)));

@@ -16,8 +16,11 @@ pub fn shelve<B: Body>(laid: &Laid<B>, seat: &mut WSeat<B>, t: CellId, rec: Rec<
     requires slot { HasSlot t.0 seat.old.me }
     requires may { MayShelve (program_of B.places B.awaits B.left B.asks B.then) t.0 rec
         seat.old.me.0 }
+    // The seat is one of the same table.
     ensures table { seat.new.table_id ≡ seat.old.table_id }
+    // It is the same seat.
     ensures id { seat.new.id ≡ seat.old.id }
+    // The task has left the seat with its slot, and a token is given up.
     ensures me { seat.new.me ≡ (shelved t.0 seat.old.me.0, rest seat.old.me.1) }
 {
     drop(laid.slot_swap(seat, t, Some(rec)));

@@ -17,6 +17,7 @@ use tj_words::{Head, Laid, Phase, WSeat, Way};
 /// Wakes each task that waits for `p`: it is ready then, and put into the pool. Tells how many there
 /// were. After `Oom` one task more is ready and isn't in the pool, others are left to this seat as its
 /// rest, and the run is to stop.
+// It asks that no record lies in the slot taken last: its steps on LIVE would bring that home.
 pub fn wake<B: Body, P: Pool, R: Wait>(
     rt: &R,
     alloc: Global,
@@ -29,10 +30,18 @@ pub fn wake<B: Body, P: Pool, R: Wait>(
     requires cell { IsCellOf laid.now p.0 }
     requires may { MayWake p.0 seat.old.me }
     requires pool { P.limit pool.old ≡ laid.now.cells }
+    // The seat is the same one of the same table, with the same slots.
     ensures seat { IsSameSeat seat.old seat.new }
+    // The pool's limit stays.
     ensures limit { P.limit pool.new ≡ P.limit pool.old }
+    // After `Ok` the chain that this call took is woken, each task of it once and put into the pool
+    // in its order; the number is told, and nobody is left to the seat. Its view notes of each, in
+    // this order, that NEXT named the one behind it, and that PHASE said that it was parked on this
+    // cell.
     ensures woke { IfOk result (λ n. WakesAll P.puts p.0 n seat.old.me.0 seat.new.me.0
         pool.old pool.new) }
+    // After an error some were woken and put, one more is ready and not in the pool, and the others
+    // are left to the seat; the notes are those of the woken ones.
     ensures memory { OnErr result (WakesSome P.puts P.same p.0 seat.old.me.0 seat.new.me.0
         pool.old pool.new) }
 {

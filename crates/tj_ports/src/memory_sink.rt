@@ -28,9 +28,13 @@ impl MemSink {
     /// numbers in `fails`, from 1, fail, and so does a call when the room is full.
     pub fn new(alloc: Global, room: u32, most: u32, fails: Vec<u32>) -> Result<MemSink, Oom>
         requires { 0 < most }
+        // A sink in memory is empty.
         ensures bytes { IfOk result (λ sink. sink_bytes sink ≡ []) }
+        // It has the given room.
         ensures room { IfOk result (λ sink. sink_room sink ≡ room) }
+        // It takes at most `most` bytes a call.
         ensures most { IfOk result (λ sink. sink_most sink ≡ most) }
+        // It has had no call, and the listed ones will fail.
         ensures calls { IfOk result (λ sink. sink_calls sink ≡ fresh_calls fails) }
     {
         let held = Vec::with_capacity(alloc, room as usize)?;
@@ -44,6 +48,7 @@ impl MemSink {
 
     /// The bytes that it holds.
     pub fn bytes(&self) -> &[u8]
+        // It gives the bytes that it holds.
         ensures { result.now ≡ sink_bytes self.now }
     {
         &self.held
@@ -62,10 +67,14 @@ impl Sink for MemSink {
 
     fn put(&mut self, piece: &[u8]) -> Result<usize, Failed>
         requires { 0 < length piece.now }
+        // A listed call fails.
         ensures listed { IsNextListed (sink_calls self.old) → IsErr result }
+        // A call fails when the room is full.
         ensures full { length (sink_bytes self.old) ≡ sink_room self.old → IsErr result }
+        // A call fails only for these two causes.
         ensures causes { OnErr result (IsNextListed (sink_calls self.old)
             ⊎ (length (sink_bytes self.old) ≡ sink_room self.old)) }
+        // A call takes the least of the piece's length, the room left and `most`.
         ensures count { IfOk result (λ n. n ≡ min (min (length piece.now)
             (sink_room self.old - length (sink_bytes self.old))) (sink_most self.old)) }
 

@@ -24,8 +24,11 @@ impl MemSource {
     /// It gives at most `most` bytes a call. The calls with the numbers in `fails`, from 1, fail.
     pub fn new(bytes: Vec<u8>, most: u32, fails: Vec<u32>) -> MemSource
         requires { 0 < most }
+        // A source in memory has the given bytes left.
         ensures bytes { source_bytes result ≡ bytes.items }
+        // It gives at most `most` bytes a call.
         ensures most { source_most result ≡ most }
+        // It has had no call, and the listed ones will fail.
         ensures calls { source_calls result ≡ fresh_calls fails }
     {
         MemSource {
@@ -38,6 +41,7 @@ impl MemSource {
 
     /// The bytes that are left.
     pub fn left(&self) -> &[u8]
+        // It gives the bytes that are left.
         ensures { result.now ≡ source_bytes self.now }
     {
         &self.bytes[self.given..]
@@ -56,7 +60,9 @@ impl Source for MemSource {
 
     fn take(&mut self, into: &mut [u8]) -> Result<usize, Failed>
         requires { 0 < length into.old }
+        // A call fails exactly where its number is listed.
         ensures listed { IsErr result ↔ IsNextListed (source_calls self.old) }
+        // A call gives the least of the bytes left, the buffer's length and `most`.
         ensures count { IfOk result (λ n. n ≡ min (min (length (source_bytes self.old))
             (length into.old)) (source_most self.old)) }
 

@@ -23,29 +23,43 @@ pub trait Sink {
     /// Adds the first bytes of the piece, and says how many.
     fn put(&mut self, piece: &[u8]) -> Result<usize, Failed>
         requires { 0 < length piece.now }
+        // A sink takes at least one byte.
         ensures some { IfOk result (λ n. 0 < n) }
+        // It takes no more than the piece has.
         ensures bound { IfOk result (λ n. n ≤ length piece.now) }
+        // It holds the first bytes of the piece more.
         ensures added { IfOk result (λ n. Appends (held self.old) (held self.new)
             (take n piece.now)) }
+        // After a failure it holds what it held.
         ensures err { OnErr result (Keeps (held self.old) (held self.new)) }
 
-        // A fault is told only where it is counted.
+        // The count of faults doesn't fall.
         ensures counted { faults self.old ≤ faults self.new }
+        // An `Ok` counts no fault.
         ensures quiet { OnOk result (faults self.new ≡ faults self.old) }
+        // A failure comes only where the count rose in this call, or stands at its last value.
         ensures failed { OnErr result (HasFault (faults self.old) (faults self.new)) }
+        // A sink with room for the piece answers `Ok`, counts nothing and has room for the rest.
         ensures sound { (room : ℕ) → has_room self.old room → length piece.now ≤ room →
             IsOkAnd result (λ n. IsSound (faults self.old) (faults self.new)
             (has_room self.new (room - n))) };
 }
 
 /// Puts all the bytes. It takes no memory.
+// It tries no call again after a fault: a contract couldn't say how often.
 pub fn put_all<K: Sink>(sink: &mut K, bytes: &[u8]) -> Result<(), Failed>
+    // After `Ok` the sink holds exactly the bytes more.
     ensures ok { OnOk result (Appends (K.held sink.old) (K.held sink.new) bytes.now) }
+    // After a failure it holds a part of them more, and not all.
     ensures err { OnErr result (GrowsByPart (K.held sink.old) (K.held sink.new) bytes.now) }
 
+    // The count of faults doesn't fall.
     ensures counted { K.faults sink.old ≤ K.faults sink.new }
+    // An `Ok` counts no fault.
     ensures quiet { OnOk result (K.faults sink.new ≡ K.faults sink.old) }
+    // A failure comes only where the count rose in this call, or stands at its last value.
     ensures failed { OnErr result (HasFault (K.faults sink.old) (K.faults sink.new)) }
+    // A sink with room for the bytes answers `Ok`, counts nothing and has room for the rest.
     ensures sound { (room : ℕ) → K.has_room sink.old room → length bytes.now ≤ room →
         IsOk result × IsSound (K.faults sink.old) (K.faults sink.new)
         (K.has_room sink.new (room - length bytes.now)) }

@@ -28,16 +28,23 @@ pub trait Source {
     /// Puts the next bytes at the front of `into`, and says how many.
     fn take(&mut self, into: &mut [u8]) -> Result<usize, Failed>
         requires { 0 < length into.old }
+        // A source gives at most as many bytes as the buffer holds.
         ensures bound { IfOk result (λ n. n ≤ length into.new) }
+        // The bytes given were the first that were left, and the others are left.
         ensures taken { IfOk result (λ n. Consumes (left self.old) (left self.new)
             (take n into.new)) }
+        // It gives none only where none was left.
         ensures end { IfOk result (λ n. n ≡ 0 → IsAtEnd (left self.old)) }
+        // After a failure the bytes left are as before.
         ensures err { OnErr result (Keeps (left self.old) (left self.new)) }
 
-        // A fault is told only where it is counted.
+        // The count of faults doesn't fall.
         ensures counted { faults self.old ≤ faults self.new }
+        // An `Ok` counts no fault.
         ensures quiet { OnOk result (faults self.new ≡ faults self.old) }
+        // A failure comes only where the count rose in this call, or stands at its last value.
         ensures failed { OnErr result (HasFault (faults self.old) (faults self.new)) }
+        // A source that never fails answers `Ok`, counts nothing and is still such a source.
         ensures sound { never_fails self.old →
             IsOk result × IsSound (faults self.old) (faults self.new) (never_fails self.new) };
 }
@@ -87,19 +94,28 @@ impl From<AllocError> for ReadFault {
 
 /// Reads to the end, or one byte past the limit, which shows that there are more.
 pub fn read_all<S: Source>(alloc: Global, source: &mut S, limit: u32) -> Result<ReadEnd, ReadFault>
-    // Where the bytes are told, they decide between whole and long.
+    // The answer is whole with all bytes that were left where they are within the limit, else long
+    // with the first.
     ensures read { IfSome (S.left source.old) (λ bytes. IfOk result
         (λ end. end ≡ read_of limit bytes)) }
+    // A whole text is within the limit, and a long one has as many bytes as the limit.
     ensures within { IfOk result (IsWithin limit) }
+    // After `Ok` the bytes behind the limit and one more are left.
     ensures rest { OnOk result (IfSome (S.left source.old)
         (λ bytes. S.left source.new ≡ Some (drop (limit + 1) bytes))) }
+    // It takes at most one byte more than the limit.
     ensures taken { TakesAtMost (limit + 1) (S.left source.old) (S.left source.new) }
 
+    // The count of faults doesn't fall.
     ensures counted { S.faults source.old ≤ S.faults source.new }
+    // Want of memory comes only where the count stood still.
     ensures oom { result ≡ Err ReadFault.Oom → S.faults source.new ≡ S.faults source.old }
+    // An `Ok` counts no fault.
     ensures quiet { OnOk result (S.faults source.new ≡ S.faults source.old) }
+    // A failed read is told only where the count rose in this call, or stands at its last value.
     ensures failed { result ≡ Err ReadFault.Failed
         → HasFault (S.faults source.old) (S.faults source.new) }
+    // A source that never fails gives no failed read, and is still such a source.
     ensures sound { S.never_fails source.old → (result ≢ Err ReadFault.Failed)
         × IsSound (S.faults source.old) (S.faults source.new) (S.never_fails source.new) }
 {

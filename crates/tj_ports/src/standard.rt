@@ -20,7 +20,9 @@ impl<I: Read> StdSource<I> {
 
     /// Nothing was taken from the reader yet.
     pub fn new(input: I) -> StdSource<I>
+        // A source over a reader takes from the given reader.
         ensures reader { reader_of result ≡ input }
+        // It has counted no fault.
         ensures faults { read_faults result ≡ 0 }
     {
         StdSource { input, faults: 0 }
@@ -57,7 +59,9 @@ impl<P: Write> StdSink<P> {
 
     /// Nothing was put to the writer yet.
     pub fn new(output: P) -> StdSink<P>
+        // A sink over a writer puts to the given writer.
         ensures writer { writer_of result ≡ output }
+        // It has counted no fault.
         ensures faults { write_faults result ≡ 0 }
     {
         StdSink { output, faults: 0 }

@@ -45,87 +45,115 @@ pub fn run_words<S: Source, K: Sink, G: Gate, R: Wait + Threads + Sync>(
     sink: &mut K,
     gate: &G,
 ) -> (Status, Option<Closed>)
-    // Where the ports tell their bytes and don't fail, the sink grows by the output, or memory is
-    // wanting. What isn't read needs no telling.
+    // Where what is read is told and the sink tells its bytes, and neither has a fault, the sink
+    // grows by exactly the output and the status is its status, or the status is Memory and nothing
+    // is written. Neither the number of workers nor the gate has a part in the output. Of `relay`
+    // the output is by channels as lists, and names no promise.
     ensures output { (input held : List ℕ) → (TakesInput words.now → S.left source.old ≡ Some input)
         → K.held sink.old ≡ Some held
         → (TakesInput words.now → HasNoFault (S.faults source.old) (S.faults source.new))
         → HasNoFault (K.faults sink.old) (K.faults sink.new)
         → IsAnswered words.now input held result.0 (K.held sink.new) }
 
-    // A status that belongs to a text comes only where that text is the output, put whole.
+    // Where what is read is told, a status that belongs to a text comes only where that text is the
+    // output and was put whole.
     ensures whole { (input : List ℕ) → (TakesInput words.now → S.left source.old ≡ Some input)
         → HasText result.0 → (text : List ℕ) × IsOutput words.now input result.0 text
         × Appends (K.held sink.old) (K.held sink.new) text }
 
-    // So where words and input have an output, its status is the one, and its text was put.
+    // Where what is read is told, and words and input have an output, a status that belongs to a
+    // text is that of the output, whose text was put.
     ensures exact { (input text : List ℕ) (status : Status)
         → (TakesInput words.now → S.left source.old ≡ Some input)
         → IsOutput words.now input status text → HasText result.0
         → (result.0 ≡ status) × Appends (K.held sink.old) (K.held sink.new) text }
 
-    // That text is the output of some input, also where the source tells nothing.
+    // With a status that belongs to a text, what was put is the text of an output of these words,
+    // of this status, for some input, also where the source tells nothing.
     ensures cause { HasText result.0 → (input : List ℕ) × (text : List ℕ)
         × IsOutput words.now input result.0 text
         × Appends (K.held sink.old) (K.held sink.new) text }
 
-    // The whole input was taken, or one byte more than a script may have.
+    // With a status that belongs to a text, a mode that reads has taken the whole input, or one
+    // byte more than a script may have.
     ensures taken { (input : List ℕ) → S.left source.old ≡ Some input → TakesInput words.now
         → HasText result.0
         → S.left source.new ≡ Some (drop (suc most_bytes) input) }
 
-    // Each other answer has its cause.
+    // Usage comes only where the words have no form, and the usage line was put.
     ensures usage { result.0 ≡ Status.Usage → HasNoForm words.now
         × Appends (K.held sink.old) (K.held sink.new) usage_line }
+    // Where nothing is read, the source is as it was.
     ensures untouched { (TakesInput words.now → ⊥) → source.new ≡ source.old }
+    // A read fault comes only in a mode that reads, where the source's count rose or stands at its
+    // last value.
     ensures read_fault { result.0 ≡ Status.ReadFault → TakesInput words.now
         × HasFault (S.faults source.old) (S.faults source.new) }
+    // With a read fault nothing is written.
     ensures unwritten { result.0 ≡ Status.ReadFault → sink.new ≡ sink.old }
+    // A write fault comes only where the sink's count rose or stands at its last value.
     ensures write_fault { result.0 ≡ Status.WriteFault
         → HasFault (K.faults sink.old) (K.faults sink.new) }
+    // With a write fault, where what is read is told, a part of the output was put, and not all.
     ensures part { result.0 ≡ Status.WriteFault → (input : List ℕ)
         → (TakesInput words.now → S.left source.old ≡ Some input)
         → IsOutputPart words.now input (K.held sink.old) (K.held sink.new) }
 
-    // Where the sink doesn't fail and has room for the output, no write fails.
+    // Where the sink won't fail and has room for the output's text, and what is read is told, the
+    // status is no write fault.
     ensures fits { (room : ℕ) (input text : List ℕ) (status : Status) → K.has_room sink.old room
         → (TakesInput words.now → S.left source.old ≡ Some input)
         → IsOutput words.now input status text → length text ≤ room
         → result.0 ≢ Status.WriteFault }
 
-    // The part put is one of the output of some input, also where the source tells nothing.
+    // With a write fault a part of the output of these words for some input was put, and not all,
+    // also where the source tells nothing.
     ensures part_cause { result.0 ≡ Status.WriteFault → (input : List ℕ)
         × IsOutputPart words.now input (K.held sink.old) (K.held sink.new) }
+    // With Memory nothing is written.
     ensures memory { result.0 ≡ Status.Memory → sink.new ≡ sink.old }
 
-    // With `--strict` a script without the keyword `get` has no outcome with a wait.
+    // With `--strict` in `run` or `plan`, where the input's tokens are a script and have no keyword
+    // `get`, no outcome of its run has a cycle or a task that waits.
     ensures never_waits { (command : Command) (input : List ℕ) → IsCommand words.now command
         → StrictRunsNeverWait command input }
 
-    // With `known`, each join that is told as known is along the fork order.
+    // With `known`, where the meaning isn't full, each join that is told as known is along the fork
+    // order.
     ensures known_is_along { (cells steps : ℕ) (input : List ℕ)
         → IsCommand words.now (Command.Known cells steps) → (start : Start)
         → IsStart (Command.Known cells steps) input start → KnownJoinsOfMeaningAreAlong start }
 
     // A port that failed is told: so no other status, want of memory among them, hides a fault.
+    // The source's count of faults doesn't fall.
     ensures source_counted { S.faults source.old ≤ S.faults source.new }
+    // The source's count rises only with a read fault.
     ensures source_quiet { result.0 ≢ Status.ReadFault
         → S.faults source.new ≡ S.faults source.old }
+    // The sink's count of faults doesn't fall.
     ensures sink_counted { K.faults sink.old ≤ K.faults sink.new }
+    // The sink's count rises only with a write fault.
     ensures sink_quiet { result.0 ≢ Status.WriteFault → K.faults sink.new ≡ K.faults sink.old }
+    // A source that never fails gives no read fault, and is still such a source.
     ensures sound { S.never_fails source.old → (result.0 ≢ Status.ReadFault)
         × IsSound (S.faults source.old) (S.faults source.new) (S.never_fails source.new) }
 
-    // Closed words come exactly with the outcome of a run over workers.
+    // Closed words are answered exactly where the status is Clean or Marked and the words are a
+    // command of `run`, `gen`, `relay` or `watch`.
     ensures closed_with { IsSome result.1 ↔ (HasOutcome result.0 × HaveWorkers words.now) }
 
-    // They are of the run that the status and the text tell. Each cycle of its outcome has a member
-    // that has alarmed.
+    // Where what is read is told, closed words, status and text are of one run, that of the root,
+    // rule and limit which the words and the input name (in `relay`, of the body that
+    // `tj_chan::ChanBody::new` makes of the relay's root), and its text was put whole. The run
+    // isn't full. The text and the status are those of its outcome; the words are at rest and are
+    // those of its meaning: its cells by name, each once, TAG by each entry, and each history by
+    // phase and owners. Each cycle of the outcome, and each cycle of the words, has a member that
+    // has alarmed, and each task that has alarmed is on a cycle.
     ensures closed { (input : List ℕ) → (TakesInput words.now → S.left source.old ≡ Some input)
         → IfSome result.1 (IsClosedRunOf words.now input (K.held sink.old) (K.held sink.new)
         result.0) }
 
-    // The same of some input, also where the source tells nothing.
+    // The same of these words and some input, also where the source tells nothing.
     ensures closed_cause { IfSome result.1 (λ closed. (input : List ℕ)
         × IsClosedRunOf words.now input (K.held sink.old) (K.held sink.new) result.0 closed) }
 {

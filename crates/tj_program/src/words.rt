@@ -25,19 +25,23 @@ pub fn run_given<S: Source, K: Sink, G: Gate, R: Wait + Threads + Sync>(
     sink: &mut K,
     gate: &G,
 ) -> (Status, Option<Closed>)
-    // Of words, it is what the top call answers, clause by clause.
+    // For arguments that are words it answers and does what `tj_program::run_words` does for the
+    // same words, clause by clause. So what the clauses of `run_words` say without told bytes also
+    // holds of it over the system's ports, which tell nothing.
     ensures words { (words : Vec (String Global) Global) → given ≡ Given.Words words
         → IsTopAnswer words.items (S.left source.old) (S.left source.new) (S.faults source.old)
         (S.faults source.new) (source.new ≡ source.old) (S.never_fails source.old)
         (S.never_fails source.new) (K.held sink.old) (K.held sink.new) (K.faults sink.old)
         (K.faults sink.new) (K.has_room sink.old) (sink.new ≡ sink.old) result.0 result.1 }
 
-    // Of words that aren't text, the usage line is put.
+    // Where a word isn't text, the source is as it was, no closed words are answered, and the usage
+    // line is put: whole with the status Usage, or a part of it with a write fault.
     ensures not_text { given ≡ Given.NotText
         → (source.new ≡ source.old) × (result.1 ≡ None) × IsPutAs (K.has_room sink.old) Status.Usage
         usage_line (K.held sink.old) (K.held sink.new) (K.faults sink.old) (K.faults sink.new) result.0 }
 
-    // Where memory is wanting before any word is read, the ports are left as they were.
+    // For want of memory before any word is read the status is Memory, without closed words, and
+    // both ports are as they were.
     ensures oom { given ≡ Given.Oom → (result ≡ (Status.Memory, None)) × (source.new ≡ source.old)
         × (sink.new ≡ sink.old) }
 {

@@ -35,7 +35,9 @@ impl LockedQueue {
 
 /// Adds the cell at the back. After `Oom` the queue is as before.
 pub fn queue_put(_alloc: Global, queue: &mut LockedQueue, t: CellId) -> Result<(), Oom>
+    // After `Ok` the queue has the cell more, at its back.
     ensures ok { OnOk result (queue.new ≡ queue.old ++ t ∷ []) }
+    // After an error the queue is as before.
     ensures err { OnErr result (queue.new ≡ queue.old) }
 {
     queue.waiting.push_back(t)?;
@@ -44,8 +46,11 @@ pub fn queue_put(_alloc: Global, queue: &mut LockedQueue, t: CellId) -> Result<(
 
 /// Takes out the front. `None` comes exactly where the queue is empty. It takes no memory.
 pub fn queue_take(queue: &mut LockedQueue) -> Option<CellId>
+    // None comes exactly where the queue is empty.
     ensures none { (result ≡ None) ↔ (queue.old ≡ []) }
+    // Then the queue stays empty.
     ensures empty { result ≡ None → queue.new ≡ [] }
+    // Else its front is given and taken out.
     ensures front { IfSome result (λ t. queue.old ≡ t ∷ queue.new) }
 {
     queue.waiting.pop_front()

@@ -46,6 +46,7 @@ pub trait PoolRule<V>: QueueRule<V> {
 
     /// Whether a worker takes the newest cell of its own queue, and not the oldest.
     fn is_newest_first() -> bool
+        // Whether the workers of a rule take their own newest cell first is what the rule says.
         ensures { result ≡ Self.newest };
 
     ghost kept: { IsPoolRule Self.holds Self.first own other limit puts takes empty few };

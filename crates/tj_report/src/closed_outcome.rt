@@ -21,10 +21,15 @@ use tj_words::RestWords;
 pub fn outcome_of<B: Body>(alloc: Global, rest: &RestWords<B>) -> Result<Outcome, Oom>
     requires { HaveMeaning (program_of B.places B.awaits B.left B.asks B.then rest.now.strict
         rest.now.root) rest.now.limit rest.now.cells rest.now.records }
+    // The outcome is that of the meaning that the closed words and records are those of: a line for
+    // each history, in name order, and exactly the cycles of its wait graph, each once, from its
+    // least name on, in the order of these names.
     ensures outcome { let p = program_of B.places B.awaits B.left B.asks B.then rest.now.strict
         rest.now.root in IfOk result (IsOutcome (meaning p rest.now.limit)) }
 
-    // Each of its cycles has a member whose phase is Alarmed, as `rest` tells of the meaning's.
+    // Where each cycle of that meaning has a member that has alarmed, which `rest` says too, each
+    // cycle of the outcome has one: a task with the name that some cell has by PARENT and KID,
+    // whose PHASE says that it has alarmed.
     ensures alarmed { let p = program_of B.places B.awaits B.left B.asks B.then rest.now.strict
         rest.now.root in AreCyclesOfMeaningAlarmed p rest.now.limit rest.now.cells
         → IfOk result (AreCyclesOfOutcomeAlarmed rest.now.cells) }

@@ -15,6 +15,7 @@ use tj_mean::{Ending, Link, Outcome, TaskLine, marked};
 
 /// The report of the outcome.
 pub fn report_text(alloc: Global, o: &Outcome) -> Result<Vec<u8>, Oom>
+    // The text is the report of the outcome, line by line.
     ensures { IfOk result (λ text. text.items ≡ report o.now) }
 {
     let mut text = Vec::new(alloc);
@@ -102,6 +103,7 @@ fn add_ending(alloc: Global, ending: &Ending, text: &mut Vec<u8>) -> Result<(), 
 
 /// Adds a value.
 pub fn add_shown(alloc: Global, value: &Shown, text: &mut Vec<u8>) -> Result<(), Oom>
+    // After `Ok` the text has grown by exactly the value as a report prints it.
     ensures { IfOk result (λ _. text.new.items ≡ text.old.items ++ shown_text value.now) }
 {
     match value {

@@ -32,6 +32,9 @@ pub struct RestReport {
 pub fn report_at_rest<B: Body>(alloc: Global, rest: &RestWords<B>) -> Result<RestReport, Oom>
     requires { HaveMeaning (program_of B.places B.awaits B.left B.asks B.then rest.now.strict
         rest.now.root) rest.now.limit rest.now.cells rest.now.records }
+    // The text is the report, line by line, of an outcome of the meaning that the closed words and
+    // records are those of, and says that it is marked exactly where that outcome is; each cycle of
+    // it has a member that has alarmed where each of the meaning's has.
     ensures { let p = program_of B.places B.awaits B.left B.asks B.then rest.now.strict
         rest.now.root in IfOk result (λ given.
         IsReportOf p rest.now.limit rest.now.cells given.text.items given.marked) }

@@ -18,7 +18,11 @@ struct Counts {
 }
 
 /// The summary of the outcome of a script of this size.
+// The owed promises are added up in 128 bits, which so many lengths can't pass.
 pub fn summary_text(alloc: Global, size: u32, o: &Outcome) -> Result<Vec<u8>, Oom>
+    // The text is the summary of the outcome with the given size: how many tasks there are, how
+    // many of them are done, failed or wait, how many promises are owed, how many cycles stand,
+    // what the root returned, and whether it is marked.
     ensures { IfOk result (λ text. text.items ≡ spec.summary size o.now) }
 {
     let mut text = Vec::new(alloc);

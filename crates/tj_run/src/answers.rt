@@ -1,4 +1,5 @@
-//! What has become of the cell that a task waits for is its answer, or ends it.
+//! How a task goes on once it knows what has become of the cell that it waits for: this is its
+//! answer, or it ends the task.
 ghost use Rattle.std.specs.Prelude.{◌≡◌, ◌+◌, ◌<◌, ◌^◌, IfErr, IfOk, length};
 ghost use Rattle.tj_body.specs.Programs.{program_of};
 ghost use Rattle.tj_run.specs.Workers.{table_program};

@@ -40,12 +40,22 @@ pub fn run_all<B: Body, P: Pool, G: Gate, R: Wait + Threads + Sync>(
     requires cells { (0 < cells) × (cells ≤ MAX_CELLS) }
     requires workers { (0 < workers) × (workers ≤ 64) }
     requires root { IsFresh B.places B.awaits B.left 1 root }
+    // With `Ok` the table rests: the cells, the root and the rule are those that were given, and no
+    // more cells were drawn than there are; each task has ended, or is parked or has alarmed, and
+    // nothing has become of what it waits for; what stands is exactly the meaning of the root; each
+    // standing cycle, and each cycle of the meaning's waits, has a member that has alarmed, and
+    // each task that has alarmed is on a cycle.
     ensures rest { IfOk result (RestsAt
         (program_of B.places B.awaits B.left B.asks B.then) root cells strict) }
+    // The words and the records are the end of a run of a table for this program from its first
+    // state: by step calls, each of a seat of which what it asks is so, by splits, and by merges of
+    // idle seats.
     ensures run { IfOk result (EndsItsRun
         (program_of B.places B.awaits B.left B.asks B.then) root cells strict) }
+    // Then the meaning isn't full.
     ensures fits { IfOk result (λ _. ¬ IsFull
         (program_of B.places B.awaits B.left B.asks B.then strict root) cells) }
+    // Full comes only where the meaning is full. So, want of memory aside, it comes exactly there.
     ensures full { IfErr result (λ fault. fault ≡ RunFault.Full → IsFull
         (program_of B.places B.awaits B.left B.asks B.then strict root) cells) }
 {
@@ -88,7 +98,10 @@ pub fn work_all<B: Body, P: Pool, G: Gate, R: Wait + Threads + Sync>(
     requires crosses { IsSync R.row × IsSync G.row × IsSend B.row × IsSend P.row }
     requires pools { All (λ end. P.limit end ≡ laid.now.cells) ends.items }
     requires lots { HasLots (length ends.items) seat.me.0 }
+    // The seat that the workers give back is one of the same table.
     ensures table { result.0.table_id ≡ seat.table_id }
+    // They leave as one worker does: at rest, with the lot of the seat that was given; or stopped,
+    // where any of them was.
     ensures left { Leaves (program_of B.places B.awaits B.left B.asks B.then) result.1 seat.me.0
         result.0.me }
 {

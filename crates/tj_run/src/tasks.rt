@@ -87,6 +87,7 @@ impl<B: Body, P: Pool, R: Wait> Post<'_, B, P, R> {
 
     /// Runs a claimed task until it leaves the worker. It comes back where it has waited in vain:
     /// something had become of its cell as it was to be parked.
+    // No measure: nothing tells that the record that comes back from `park` is the one laid down.
     #[inline(always)]
     pub(crate) fn run(&mut self, laid: &Laid<B>, rec: Rec<B>) -> Result<(), Why>
         requires post { IsPostOf P.limit laid.now self.old }

@@ -39,11 +39,21 @@ pub fn worker<B: Body, P: Pool, G: Gate, R: Wait>(
     requires rooted { IsRooted (table_program (program_of B.places B.awaits B.left B.asks B.then)
         laid.now) }
     requires pool { P.limit pool ≡ laid.now.cells }
+    // The seat that the worker gives back is one of the same table.
     ensures table { result.0.table_id ≡ seat.table_id }
+    // A worker that has rested has loaded LIVE as 0, and its seat has no task, no slot and nothing
+    // to do, and the lot that it came with. One that was stopped has loaded STOP, the last time, as
+    // why it says; and as full only where the meaning of the program, with the number of cells, is
+    // full.
     ensures left { Leaves (program_of B.places B.awaits B.left B.asks B.then) result.1 seat.me.0
         result.0.me }
+    // Rested comes only where the last step of this call loaded LIVE as 0, and Stopped only where
+    // it loaded STOP as why it says: the view before that step has what the seat noted in this call
+    // in front of its notes, and LIVE or STOP was so then.
     ensures found { Found (program_of B.places B.awaits B.left B.asks B.then) result.1 seat.me.0
         result.0.me.0 }
+    // The last step in the log of its seat is that load: of LIVE, which was 0, or of STOP, which
+    // said why.
     ensures log { EndsLog result.1 result.0.log }
 {
     let mut post = Post {

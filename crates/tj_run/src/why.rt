@@ -21,6 +21,7 @@ impl Why {
     /// The cause that the word STOP says.
     #[inline(always)]
     pub fn of_stop(stop: Stop) -> Why
+        // What a loaded STOP says of why a run has stopped.
         ensures { stop_word result ≡ words.stop_word stop }
     {
         match stop {
@@ -32,6 +33,7 @@ impl Why {
     /// What the word STOP is to say.
     #[inline(always)]
     pub fn stop(self) -> Stop
+        // What is stored in STOP for a cause.
         ensures { words.stop_word result ≡ stop_word self }
     {
         match self {

@@ -91,6 +91,7 @@ abbrev mutual
   expression vars (tree.variable x) = name vars x ∷ []
   expression vars tree.me = key k.Me ∷ []
   expression vars (tree.negation x) = mark m.Minus ∷ at_level 3 (level x) (expression vars x)
+  -- a chain as the first operand of one of its level keeps its parentheses: its tree is another one
   expression vars (tree.chain x pairs) =
       at_level (pairs_level pairs + 1) (level x) (expression vars x) ++ pairs_parts vars pairs
   expression vars (tree.comparison rel x y) =

@@ -89,10 +89,12 @@ fn script_text(alloc: Global, script: &Script) -> Result<Vec<u8>, Oom>
 }
 
 /// The canonical listing of a script.
+// It has no condition: a name that isn't there is listed as no bytes.
 pub fn list_text(alloc: Global, script: &Script) -> Result<Vec<u8>, Oom>
+    // The text is the canonical listing of the script, byte for byte.
     ensures text { IfOk result (λ text. text.items ≡ listing.listing (view.script script.now)) }
 
-    // Where some tokens are the script, the tokens of the text are it too, whatever its length.
+    // Where some tokens that a text can have are the script, those of the listing are it too.
     ensures says { (tokens : List Tok) → AllByRecursion CanStand tokens
         → IsScript tokens (view.script script.now)
         → IfOk result (λ text. Says text.items (view.script script.now)) }

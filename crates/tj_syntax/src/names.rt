@@ -13,6 +13,8 @@ use tj_lex::Word;
 const FEW: usize = 8;
 
 /// Names, each with its number.
+// Up to 8 names are looked through one by one, which takes half the time of the map; with the list
+// alone 1,024 names with long common beginnings would take a hostile script's time.
 #[derive(Drop)]
 pub(crate) struct Names<'t> {
     list: Vec<Word>,

@@ -37,6 +37,9 @@ pub struct ScriptPlaces {
 
 /// Where the parts of a script stand.
 pub fn places(alloc: Global, tokens: &[Token]) -> Result<ScriptPlaces, AllocError>
+    // Of tokens that the grammar allows, whatever rules of names and numbers they break, it gives
+    // the positions that the derivation has: of each task, of its statements in the order of the
+    // text, of the ask of each that has one, and of its closing brace.
     ensures { IfOk result (λ found. (notes : List Noted) (script : List Task)
         (derived : IsProgram notes script) → kinds_of tokens.now ≡ tokens_of notes ++ Tok.End ∷ []
         → spec.view found ≡ spec.places_of tokens.now (in_tasks derived 0)) }

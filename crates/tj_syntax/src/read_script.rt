@@ -21,19 +21,28 @@ use tj_lex::{Place, Tok, Token};
 const START: Place = Place { line: 1, column: 1 };
 
 /// The script that the tokens are, or their first fault.
+// It asks only that the last token is the end: an end before that can follow nothing.
 pub fn parse(alloc: Global, tokens: &[Token]) -> Result<Script, ParseFault>
     requires { EndsInEnd tokens.now }
+    // What `Ok` holds is a script that the tokens are by the grammar, within its limits, with each
+    // fork of a declared task and with as many arguments as it has parameters, and a `main` without
+    // parameters.
     ensures ok { IfOk result (λ script. IsScript (kinds_of tokens.now) (view.script script)) }
 
     /// What is refused has this fault first, unless memory ran out.
+    // An error is the first fault of the tokens, of that kind and at its position, or the answer is
+    // want of memory.
     ensures fault { IfErr result (λ fault. (fault ≡ ParseFault.Oom) ⊎ IsFirstFault tokens.now fault) }
 
     /// The tokens are refused only where they are no script, unless memory ran out.
+    // Tokens are refused only where they are no script, or the answer is want of memory.
     ensures err { IfErr result (λ fault.
         (fault ≡ ParseFault.Oom) ⊎ ((script : List Task) → IsScript (kinds_of tokens.now) script → ⊥)) }
 
     /// The tokens of a script's listing, at any length, give an equal script, unless memory ran
     /// out.
+    // The tokens of the listing of a script that some tokens of a text are, at any length, give an
+    // equal script, or the answer is want of memory.
     ensures listed { (script : List Task) (given : List Tok) → AllByRecursion CanStand given
         → IsScript given script → AreTokens (listing script) tokens.now
         → MatchResult result (λ found. view.script found ≡ script) (λ fault. fault ≡ ParseFault.Oom) }

@@ -25,6 +25,7 @@ pub enum NoScript {
 impl NoScript {
     /// Where the text has its fault. Want of memory has no position.
     pub fn position(&self) -> Option<Place>
+        // It is the position of the text's fault, and None for want of memory alone.
         ensures { result ≡ position_of self.now }
     {
         match self {
@@ -62,11 +63,15 @@ fn position_in_grammar(fault: &ParseFault) -> Option<Place>
 
 /// The script that a text is, which may have 1,048,576 bytes.
 pub fn script_in(alloc: Global, text: &[u8]) -> Result<Script, NoScript>
+    // Where there is a script, the text has at most 1,048,576 bytes, and its tokens are that
+    // script.
     ensures ok { IfOk result (λ script. IsScriptOf text.now (view.script script)) }
     ensures script { IfOk result (λ script. IsSomeScript (view.script script)) }
 
-    // A fault is want of memory, or what is wrong first.
+    // A fault is want of memory, or what is wrong first with the text: its first byte too many,
+    // else the first fault of its tokens, else that of the grammar, each with its place.
     ensures fault { IfErr result (λ fault. IsMemory fault ⊎ IsFirstFault text.now fault) }
+    // A text that is a script is refused for want of memory alone.
     ensures refused { IfErr result (λ fault. IsMemory fault
         ⊎ ((script : List Task) → IsScriptOf text.now script → ⊥)) }
 {

@@ -10,6 +10,7 @@ use tj_lex::Place;
 /// The position just behind these bytes, where a text that is too long has its fault.
 pub fn position_behind(bytes: &[u8]) -> Place
     requires { length bytes.now ≤ most_bytes }
+    // It is the position just behind the bytes.
     ensures { result ≡ position_after bytes.now }
 {
     Place {

@@ -61,7 +61,9 @@ impl<T> TaskBody<T> {
     /// The body of a root that may ask so often before its last ask, as may each task below it, and
     /// 1,073,741,824 times at most. One that asks more often fails with `Steps`.
     pub fn new(task: T, asks: u32) -> TaskBody<T>
+        // The body of a task has asked nothing yet and has one place.
         ensures fresh { IsFresh task_places task_awaits task_left 1 result }
+        // It is the body of this task, with this bound or, where that is more, with 2^30.
         ensures root { result ≡ asked.fresh_body asks 1 task }
     {
         fresh_body(asks, 1, task)

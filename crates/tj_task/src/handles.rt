@@ -19,6 +19,7 @@ pub struct Child {
 impl Promise {
     /// The promise that was passed as number k, where the first one has number 0.
     pub fn passed(k: u16) -> Promise
+        // It is the promise that was passed with this number, from 0 on.
         ensures { result ≡ record { place = k + 1 } }
     {
         Promise {
@@ -30,6 +31,7 @@ impl Promise {
 impl Child {
     /// The task that was passed as number k, where the first one has number 0.
     pub fn passed(k: u16) -> Child
+        // It is the task that was passed with this number, from 0 on.
         ensures { result ≡ record { place = k + 1 } }
     {
         Child {
@@ -40,6 +42,7 @@ impl Child {
 
 /// These places, for a fork.
 pub fn places(alloc: Global, list: &[u32]) -> Result<PlaceList, Oom>
+    // The list has these places.
     ensures { IfOk result (λ places. places ≡ list.now) }
 {
     Ok(Items::of(Vec::from_slice(alloc, list)?))

@@ -6,10 +6,12 @@ use crate::task::Task;
 /// Each ask of a task is tested.
 #[tactic(auto, using(crate::proofs::Tested::lawful, crate::proofs::Tested::unlawful, crate::proofs::Tested::beyond))]
 pub fn asks_are_tested<T: Task>()
-    // One that the laws of one ask allow, within the task's bound, is given as its turn says it.
+    // Law: a lawful ask within the bound is given unchanged, and the task is from then on what its
+    // turn says.
     ensures lawful { HoldsOfTurns T.turn (GivesLawful T.turn) }
 
-    // For another one within the bound the task fails with Kind, and beyond the bound with Steps.
+    // Law: where an ask within the bound isn't lawful, the task fails with Kind.
     ensures unlawful { HoldsOfTurns T.turn (FailsUnlawful T.turn) }
+    // Law: where a task asks beyond its bound, it fails with Steps.
     ensures beyond { HoldsOfTurns T.turn (FailsBeyond T.turn) }
 {}

@@ -5,6 +5,7 @@ ghost use Rattle.tj_task.specs.Words as words;
 
 /// The sum, by 64 bits.
 pub fn plus(x: i64, y: i64) -> i64
+    // It is the sum, the difference or the product by 64 bits.
     ensures { result ≡ words.plus x y }
 {
     x.wrapping_add(y)
@@ -26,6 +27,7 @@ pub fn times(x: i64, y: i64) -> i64
 
 /// The number.
 pub fn number(n: u32) -> i64
+    // It is the same number.
     ensures { result ≡ pos n }
 {
     i64::from(n)

@@ -48,15 +48,19 @@ pub trait Plan: Sized + Send + Drop {
 
     /// Computes it.
     fn next(&self, alloc: Global, log: &[Told]) -> Result<Do<Self>, Oom>
+        // What a plan asks is the function `asks` of the plan and of all that its task has been
+        // told.
         ensures { IfOk result (λ d. d ≡ asks self.now log.now) };
 
     /// An equal task.
     fn twin(&self, alloc: Global) -> Result<Self, Oom>
+        // The twin equals the plan.
         ensures { IfOk result (λ twin. twin ≡ self.now) };
 }
 
 /// Starts a child that is passed these places and handed the promises at those.
 pub fn fork_with<T: Drop>(alloc: Global, child: T, pass: &[u32], hand: &[u32]) -> Result<Do<T>, Oom>
+    // It is a fork of this child, which is passed and handed these places.
     ensures { IfOk result (λ d. d ≡ does.ForkWith child pass.now hand.now) }
 {
     Ok(Do::ForkWith {

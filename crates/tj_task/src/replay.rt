@@ -21,6 +21,7 @@ pub struct Replay<T> {
 impl<T> Replay<T> {
     /// A task that has been told nothing.
     pub fn of(alloc: Global, plan: T) -> Replay<T>
+        // The task of a plan has been told nothing yet.
         ensures { result ≡ replays.fresh plan }
     {
         Replay {

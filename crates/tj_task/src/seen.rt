@@ -18,6 +18,7 @@ pub enum Seen<V> {
 
 /// The promise that ask number k made.
 pub fn promise_at(log: &[Told], k: usize) -> Seen<Promise>
+    // It is what is seen of an ask: nothing yet, what its answer told, or another answer.
     ensures { result ≡ seen.promise_at log.now k }
 {
     match log.get(k) {
@@ -164,6 +165,7 @@ fn value_in(told: Told) -> Seen<()>
 
 /// The number that ask number k was told, and this one where the cell is broken.
 pub fn num_or_at(log: &[Told], k: usize, other: i64) -> Seen<i64>
+    // It is the number of the answer, and the other one where the cell is broken.
     ensures { result ≡ seen.num_or_at log.now k other }
 {
     match log.get(k) {

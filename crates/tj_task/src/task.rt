@@ -14,9 +14,11 @@ pub trait Task: Sized + Send + Drop {
 
     /// Computes it.
     fn step(self, alloc: Global, told: Told) -> Result<Turn<Self>, Oom>
+        // What a task does is the function `turn` of the task and of what it is told.
         ensures { IfOk result (λ t. t ≡ turn self told) };
 
     /// An equal task.
     fn twin(&self, alloc: Global) -> Result<Self, Oom>
+        // The twin equals the task.
         ensures { IfOk result (λ twin. twin ≡ self.now) };
 }

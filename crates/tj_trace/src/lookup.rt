@@ -16,6 +16,7 @@ use tj_syntax::{ScriptPlaces, TaskPlaces};
 
 /// The line of the task with this name.
 pub fn line_of<'t>(lines: &'t [TraceLine], name: &Name) -> Option<&'t TraceLine>
+    // The answer is the first line of a task with this name, and none where there is none.
     ensures { option_map (λ line. line.now) result
         ≡ find (λ line. same line.line.name name.now) lines.now }
 {
@@ -24,6 +25,8 @@ pub fn line_of<'t>(lines: &'t [TraceLine], name: &Name) -> Option<&'t TraceLine>
 
 /// The line of the task that owned the cell with this name where it stopped.
 pub fn owner_of<'t>(lines: &'t [TraceLine], name: &Name) -> Option<&'t TraceLine>
+    // The answer is the first line of a task that owed the promise when it ended, or waits and
+    // holds it or is it.
     ensures { option_map (λ line. line.now) result
         ≡ find (λ line. has name.now (spec.kept_by line)) lines.now }
 {
@@ -51,6 +54,8 @@ fn is_among(name: &Name, names: &[Name]) -> bool
 pub fn maker_of(lines: &[TraceLine], name: &Name) -> Option<Maker>
     // Nobody made the root.
     ensures root { name.now ≡ [] → result ≡ None }
+    // The answer is the statement that made the thing with this name: of the line of its maker, the
+    // one with the number with which the name ends.
     ensures child { (maker : List ℕ) (k : ℕ) → name.now ≡ child maker k
         → result ≡ spec.made_by (find (λ line. same line.line.name maker) lines.now) k }
 {
@@ -89,7 +94,10 @@ fn made_by(line: &TraceLine, k: u32) -> Option<Maker>
 
 /// Where the statement with this number begins, in the declaration with that number; the number
 /// behind the last is that of the closing brace.
+// A line has numbers and no positions: the meaning needs no text.
 pub fn spot(places: &ScriptPlaces, decl: usize, at: usize) -> Option<Place>
+    // The answer is where the statement with this number begins in that declaration; at the number
+    // behind the last, where its closing brace stands; and none past that.
     ensures { result ≡ spec.spot_of (slice_get (view places.now) decl) at }
 {
     let task = places.tasks.get(decl)?;
@@ -112,7 +120,10 @@ fn spot_in(task: &TaskPlaces, at: usize) -> Option<Place>
 
 /// Where the ask of the statement with this number begins, in the declaration with that number, if
 /// the statement has one.
+// It stands beside `spot`, since a task can fail at a statement without an ask.
 pub fn ask_spot(places: &ScriptPlaces, decl: usize, at: usize) -> Option<Place>
+    // The answer is where the ask of the statement with this number begins in that declaration, and
+    // none if the statement has none or there is no such statement.
     ensures { result ≡ spec.ask_spot_of (slice_get (view places.now) decl) at }
 {
     let task = places.tasks.get(decl)?;

@@ -28,10 +28,14 @@ pub fn trace(
     requires root { IsFresh placed_places placed_awaits placed_left 1 root.now }
     requires cells { (0 < cells) × (cells ≤ MAX_CELLS) }
 
-    // `Full` comes exactly where the meaning needs more than `cells` cells.
+    // Lines come only where the meaning fits in `cells` cells.
     ensures fits { IfOk result (λ _. ¬ rounds.IsFull (logged_program strict root.now) cells) }
+    // `Full` comes only where it doesn't fit.
     ensures full { IfErr result (λ e.
         e ≡ PlanFault.Full → rounds.IsFull (logged_program strict root.now) cells) }
+    // The lines are those of the meaning: one for each task, in name order, with what its outcome
+    // tells of it, the promises that it holds where it waits, the declaration that it runs, the
+    // statement at which it waits, failed or ended, and the statement that made each of its things.
     ensures traced { IfOk result (AreTraced (logged_program strict root.now) cells) }
 {
     let noting = LoggedBody::of(alloc, root.twin(alloc)?);

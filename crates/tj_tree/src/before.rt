@@ -15,6 +15,7 @@ use std::sync::ledger::Ledger;
 use tj_base::Steps;
 
 /// Whether task `a` is before task `b` in the fork order, whatever tree the reader shows.
+// It ticks once a look and nowhere else; a move may take two looks.
 pub fn before_in<R: NodeReader, L: Ledger>(
     reader: &mut R,
     a: NodeId,
@@ -25,15 +26,19 @@ pub fn before_in<R: NodeReader, L: Ledger>(
     requires a_open { R.may_look reader.old a.0 }
     requires b_open { R.may_look reader.old b.0 }
 
+    // The answer is that of the list of each tree that has the nodes shown at the return.
     ensures order { InEachTree (R.shows reader.new) (λ forks.
         IsTrue result ↔ IsEarlier (order_of forks) a.0 b.0) }
 
-    // With b binary digits of the greater depth plus one, at most 16b + 16 looks.
+    // In each such tree the counter grows by at most 16b + 16, b as above.
     ensures cost { InEachTree (R.shows reader.new) (λ forks.
         TakesFewSteps forks a.0 b.0 steps.old steps.new) }
+    // The counter grows by the number of looks.
     ensures counted { steps.new + R.looks reader.old ≡ steps.old + R.looks reader.new }
+    // What the reader showed and let be looked at stays so, and it still shows part of a tree.
     ensures goes_on { GoesOn (R.shows reader.old) (R.may_look reader.old)
         (R.shows reader.new) (R.may_look reader.new) }
+    // What the reader says that a look leaves alone is as it was.
     ensures stays { R.stays reader.old reader.new }
 {
     let a = visit(reader, a, steps);

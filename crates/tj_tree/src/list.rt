@@ -28,6 +28,7 @@ impl Model for OrderList {
 impl OrderList {
     /// The root alone.
     pub fn new(alloc: Global) -> Result<OrderList, Oom>
+        // The list is the root alone.
         ensures { IfOk result (λ list. list ≡ 0 ∷ []) }
     {
         let mut tasks = Vec::new(alloc);
@@ -39,8 +40,11 @@ impl OrderList {
     pub fn fork(&mut self, parent: NodeId) -> Result<NodeId, Oom>
         requires parent_there { parent.0 < length self.old }
         requires room { length self.old < MAX_CELLS }
+        // The new task has the next number.
         ensures number { IfOk result (λ child. child.0 ≡ length self.old) }
+        // It stands directly after its parent, and all else is as before.
         ensures ok { IfOk result (λ child. self.new ≡ insert_after parent.0 child.0 self.old) }
+        // After an error the list is as before.
         ensures err { OnErr result (self.new ≡ self.old) }
     {
         let child = self.tasks.len() as u32;
@@ -51,6 +55,7 @@ impl OrderList {
 
     /// How many tasks there are. They are numbered from 0 on.
     pub fn count(&self) -> u32
+        // The answer is how many tasks there are.
         ensures { result ≡ length self.now }
     {
         self.tasks.len() as u32
@@ -58,6 +63,7 @@ impl OrderList {
 
     /// Whether `a` stands before `b`.
     pub fn before(&self, a: NodeId, b: NodeId) -> bool
+        // True comes exactly where a stands before b.
         ensures { IsTrue result ↔ IsEarlier self.now a.0 b.0 }
     {
         stands_before(self.tasks.as_slice(), a.0, b.0)

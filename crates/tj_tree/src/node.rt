@@ -29,6 +29,7 @@ pub struct TaskNode {
 impl TaskNode {
     /// Where a move leads: by the jump, or to the parent.
     pub fn move_up(&self, by_jump: bool) -> NodeId
+        // It gives the parent of the task's node, or its jump.
         ensures { result ≡ move_from self.now.node by_jump }
     {
         if by_jump {

@@ -41,6 +41,7 @@ impl Model for ForkTree {
 impl ForkTree {
     /// The root alone.
     pub fn new(alloc: Global) -> Result<ForkTree, Oom>
+        // The tree has the root alone.
         ensures { IfOk result (λ tree. tree ≡ []) }
     {
         let root = NodeId(0);
@@ -59,9 +60,13 @@ impl ForkTree {
     pub fn fork(&mut self, parent: NodeId) -> Result<NodeId, Oom>
         requires parent_there { parent.0 < task_count self.old }
         requires room { task_count self.old < MAX_CELLS }
+        // The new task has the next number.
         ensures number { IfOk result (λ child. child.0 ≡ task_count self.old) }
+        // The tree's history has the next fork by this parent more.
         ensures ok { OnOk result (self.new ≡ next_fork self.old parent.0 ∷ self.old) }
+        // After an error the tree is as before.
         ensures err { OnErr result (self.new ≡ self.old) }
+        // What the tree has then is a history: each fork could come next.
         ensures history { IsHistory self.new }
     {
         let child = NodeId(self.entries.len() as u32);
@@ -71,8 +76,11 @@ impl ForkTree {
 
     /// How many tasks there are. They are numbered from 0 on.
     pub fn count(&self) -> u32
+        // The answer is how many tasks there are.
         ensures count { result ≡ task_count self.now }
+        // The tasks are those with a number below it.
         ensures tasks { (n : ℕ) → (n < result) ↔ HasTask self.now n }
+        // What the tree has is a history.
         ensures history { IsHistory self.now }
     {
         self.entries.len() as u32
@@ -81,8 +89,11 @@ impl ForkTree {
     /// The node of a task.
     pub fn node(&self, task: NodeId) -> Node
         requires { task.0 < task_count self.now }
+        // The answer is the node that the history gives: parent, kid number, depth and jump.
         ensures node { result ≡ node_of self.now task.0 }
+        // Its parent is a task.
         ensures parent { result.parent.0 < task_count self.now }
+        // Its jump is a task.
         ensures jump { result.jump.0 < task_count self.now }
     {
         node_at(self.entries.as_slice(), task)
@@ -92,9 +103,11 @@ impl ForkTree {
     pub fn before<L: Ledger>(&self, a: NodeId, b: NodeId, steps: &mut Steps<L>) -> bool
         requires a_there { a.0 < task_count self.now }
         requires b_there { b.0 < task_count self.now }
+        // True comes exactly where a is before b in the list that the forks build.
         ensures order { IsTrue result ↔ IsEarlier (order_of self.now) a.0 b.0 }
 
-        // With b binary digits of the greater depth plus one, at most 16b + 16 looks.
+        // The counter grows by at most 16b + 16, b being the number of binary digits of the greater
+        // depth plus one.
         ensures cost { TakesFewSteps self.now a.0 b.0 steps.old steps.new }
     {
         before_of::<Brand, Brand, L>(self, a, b, Blank::new(1), steps)

@@ -20,6 +20,7 @@ use tj_mean::{Ending, TaskLine};
 use tj_trace::TraceLine;
 
 /// The most tasks of which each is in the picture.
+// Above this the tasks that ended well are left out; of a smaller run the fork tree explains it.
 const MOST_DRAWN: usize = 200;
 
 /// Whether the task is in the picture.

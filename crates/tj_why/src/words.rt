@@ -22,19 +22,22 @@ pub fn why_given<S: Source, K: Sink>(
     source: &mut S,
     sink: &mut K,
 ) -> Status
-    // Of words, it is what the top call answers, clause by clause.
+    // For arguments that are words it answers and does what `tj_why::why_words` does for the same
+    // words, clause by clause.
     ensures words { (words : Vec (String Global) Global) → given ≡ Given.Words words
         → IsWhyAnswer words.items (S.left source.old) (S.left source.new) (S.faults source.old)
         (S.faults source.new) (source.new ≡ source.old) (S.never_fails source.old)
         (S.never_fails source.new) (K.held sink.old) (K.held sink.new) (K.faults sink.old)
         (K.faults sink.new) (K.has_room sink.old) (sink.new ≡ sink.old) result }
 
-    // Of words that aren't text, the usage line is put.
+    // Where a word isn't text, the source is as it was, and the usage line is put: whole with the
+    // status Usage, or a part of it with a write fault.
     ensures not_text { given ≡ Given.NotText
         → (source.new ≡ source.old) × IsPutAs (K.has_room sink.old) Status.Usage usage_line
         (K.held sink.old) (K.held sink.new) (K.faults sink.old) (K.faults sink.new) result }
 
-    // Where memory is wanting before any word is read, the ports are left as they were.
+    // For want of memory before any word is read the status is Memory, and both ports are as they
+    // were.
     ensures oom { given ≡ Given.Oom → (result ≡ Status.Memory) × (source.new ≡ source.old)
         × (sink.new ≡ sink.old) }
 {

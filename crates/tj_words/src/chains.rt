@@ -27,8 +27,11 @@ impl<B: Body> Laid<B> {
         requires cell { t.0 < self.now.cells }
         requires small { heads.head_word behind ≤ self.now.cells }
         requires push { HasPush t.0 seat.old.me.0 }
+        // The seat is the same one of the same table, with the same slots.
         ensures seat { IsSameSeat seat.old seat.new }
+        // The push to come has this behind its task.
         ensures view { seat.new.me.0 ≡ stored_next t.0 behind seat.old.me.0 }
+        // The seat's log is longer by one entry: this word was stored into NEXT of the task.
         ensures log { IsLogged (call.puts_next t.0) (heads.head_word behind) 0
             (heads.head_word behind) seat.old seat.new }
     {
@@ -37,28 +40,42 @@ impl<B: Body> Laid<B> {
     }
 
     /// Adds a task to a chain that begins so. Tells how the chain begins that was found.
+    // It tells the head that it found, which is the expected one exactly if it has succeeded.
     pub fn push(&self, seat: &mut WSeat<B>, p: CellId, t: CellId, behind: Head) -> Head
         requires table { seat.old.table_id ≡ self.now.table.shared.table_id }
         requires cell { p.0 < self.now.cells }
         requires task { t.0 < self.now.cells }
         requires small { heads.head_word behind ≤ self.now.cells }
         requires push { HasPushBehind t.0 p.0 behind seat.old.me.0 }
+        // The seat is the same one of the same table, with the same slots.
         ensures seat { IsSameSeat seat.old seat.new }
+        // If the push finds the head that it expects, the task is in the chain, and its push isn't
+        // to come any more.
         ensures pushed { result ≡ behind → seat.new.me.0 ≡ pushed t.0 seat.old.me.0 }
+        // Where the head is shut, the seat knows that it is, and that something has become of the
+        // cell.
         ensures shut { result ≡ Head.Shut
             → FindsShut (program_of B.places B.awaits B.left B.asks B.then)
             self.now.cells p.0 seat.old.me.0 seat.new.me.0 }
+        // Else the seat knows the chain that was found.
         ensures other { result ≢ behind → result ≢ Head.Shut
             → FindsChain self.now.cells p.0 result seat.old.me.0 seat.new.me.0 }
+        // What is told is what stood in HEAD of the cell in some table under the law, in which a
+        // seat had this view.
         ensures moment { WasSo (program_of B.places B.awaits B.left B.asks B.then) (head_at p.0)
             (heads.head_word result) seat.old.me.0 }
 
-        // A push that succeeds lengthens the very chain that was found; else a longer one is found.
+        // If the push finds the head that it expects, the chain at such a moment is each chain that
+        // the seat had found with this head: none was taken and built again in between.
         ensures lengthens { result ≡ behind
             → ChainIsFound (program_of B.places B.awaits B.left B.asks B.then) p.0 behind
             seat.old.me.0 }
+        // If it finds another head that isn't shut, the chain that it finds is longer than each
+        // chain that the seat had found with the head that it expects.
         ensures longer { result ≢ behind → result ≢ Head.Shut
             → FindsLonger p.0 behind result seat.old.me.0 seat.new.me.0 }
+        // The seat's log is longer by one entry: HEAD of the cell was exchanged for the task where
+        // it was this head, and this head was found.
         ensures log { IsLogged (call.pushes p.0) (heads.head_word behind)
             (heads.head_word (Head.Task t)) (heads.head_word result) seat.old seat.new }
     {
@@ -75,10 +92,16 @@ impl<B: Body> Laid<B> {
         requires entry { KnowsEntry p.0 seat.old.me.0 }
         requires rest { seat.old.me.0.rest ≡ None }
         requires backed { IsBacked seat.old.me.0 }
+        // The seat is the same one of the same table, with the same slots.
         ensures seat { IsSameSeat seat.old seat.new }
+        // Where the head was shut already, the seat has no shut of it to come any more, and no
+        // rest.
         ensures again { result ≡ Head.Shut → seat.new.me.0 ≡ found_taken p.0 seat.old.me.0 }
+        // Else the chain is the seat's rest, and the head is shut.
         ensures chain { result ≢ Head.Shut
             → TakesChain self.now.cells p.0 result seat.old.me.0 seat.new.me.0 }
+        // The seat's log is longer by one entry: HEAD of the cell was swapped for a shut one, and
+        // this head was found.
         ensures log { IsLogged (call.shuts p.0) heads.shut_word 0 (heads.head_word result)
             seat.old seat.new }
     {

@@ -17,6 +17,7 @@ pub struct RestCell {
 }
 
 /// What closed words show of the cells that were drawn, in the order of their numbers.
+// It has no type of bodies, which the top call would have to name, and no list of names.
 #[derive(Drop)]
 pub struct Closed {
     pub(crate) cells: Vec<RestCell>,
@@ -40,7 +41,9 @@ impl Closed {
 
     /// How many cells were drawn: no more than any table has.
     pub fn drawn(&self) -> u32
+        // It tells how many cells were drawn.
         ensures all { result ≡ length self.now }
+        // They are no more than the most cells of any table.
         ensures few { result ≤ MAX_CELLS }
     {
         self.cells.len() as u32
@@ -49,6 +52,7 @@ impl Closed {
     /// What the words show of a cell.
     pub fn cell(&self, c: CellId) -> RestCell
         requires { c.0 < length self.now }
+        // It tells what the words show of a cell.
         ensures { IsShown self.now c.0 result }
     {
         self.cells[c.0 as usize]

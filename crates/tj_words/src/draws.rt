@@ -20,19 +20,30 @@ use tj_events::event_keeps_facts;
 impl<B: Body> Laid<B> {
     /// Draws a cell for a task that runs, which the seat has in hand then. There is none where all
     /// are drawn.
+    // It asks only that the next thing of the task has a name of some round: the law needs no more.
     pub fn draw_one(&self, seat: &mut WSeat<B>, t: CellId, sort: Sort) -> Option<CellId>
         requires table { seat.old.table_id ≡ self.now.table.shared.table_id }
         requires may { MayDraw (program_of B.places B.awaits B.left B.asks B.then) t.0
             seat.old.me.0 }
+        // It is the same seat of the same table.
         ensures seat { (seat.new.table_id ≡ seat.old.table_id) × (seat.new.id ≡ seat.old.id) }
+        // A cell that is found is the next after all that were drawn; the seat has it in hand, with
+        // its words to write, and a new task beside.
         ensures found { IfSome result (λ c. FindsCell self.now.cells t.0 sort c.0
             seat.old.me.0 seat.new.me.0) }
+        // Where a task is drawn, the seat has its slot too.
         ensures slots { IfSome result (λ c. seat.new.me.1 ≡ new_slots c.0 sort seat.old.me.1) }
+        // Where there is none, the meaning of the program with the number of cells is full, the
+        // seat has one refused draw more, and its slots are the same.
         ensures refused { result ≡ None
             → FindsNone (program_of B.places B.awaits B.left B.asks B.then)
             seat.old.me.0 seat.new.me.0 × (seat.new.me.1 ≡ seat.old.me.1) }
+        // The seat's log is longer by one entry: 1 was added to COUNT, which was the number of the
+        // cell.
         ensures log_found { IfSome result (λ c. IsLogged (call.draws t.0 sort) 1 0 c.0
             seat.old seat.new) }
+        // Where there is none, it is longer by one entry, too: 1 was added to COUNT, which was the
+        // table's number of cells or more.
         ensures log_refused { result ≡ None → (n : ℕ) × (self.now.cells ≤ n)
             × IsLogged (call.draws t.0 sort) 1 0 n seat.old seat.new }
     {

@@ -34,17 +34,31 @@ impl<B: Body> Laid<B> {
         requires table { seat.old.table_id ≡ self.now.table.shared.table_id }
         requires cell { t.0 < self.now.cells }
         requires may { MaySwap t.0 was to seat.old.me.0 }
+        // The seat is one of the same table.
         ensures table { seat.new.table_id ≡ seat.old.table_id }
+        // It is the same seat.
         ensures seat { seat.new.id ≡ seat.old.id }
+        // After `Ok` from Ready the seat holds the task, and has its slot with its record, which
+        // tells a point of the program by what the seat knows then; so it has where it takes a task
+        // back that it had parked; where it wakes the first of its rest, that task is in the rest
+        // no more, and a token is spent.
         ensures swapped { OnOk result (Swaps (program_of B.places B.awaits B.left B.asks B.then)
             t.0 was to seat.old.me seat.new.me) }
+        // An error is one of an exchange from Ready, and tells another phase; the seat is as it
+        // was, a step later, of which its view notes that it found the word of this phase in PHASE
+        // of the task. From Parked the exchange doesn't fail.
         ensures found { IfErr result (λ p. (was ≡ Phase.Ready) × (p ≢ was)
             × (seat.new.me ≡ (missed t.0 p seat.old.me.0, seat.old.me.1))) }
+        // In some table under the law a seat has the view before the call while PHASE of the task
+        // is the word of the phase that an error tells.
         ensures moment { IfErr result (λ p. WasSo
             (program_of B.places B.awaits B.left B.asks B.then) (phase_at t.0) (phases.phase_word p)
             seat.old.me.0) }
+        // The seat's log is longer by one entry: PHASE of the task was exchanged, and was as it was
+        // thought to be.
         ensures log_swapped { OnOk result (IsLogged (call.swaps_phase t.0) (phases.phase_word was)
             (phases.phase_word to) (phases.phase_word was) seat.old seat.new) }
+        // After an error it is longer by one entry, too: the exchange found the phase that is told.
         ensures log_found { IfErr result (λ p. IsLogged (call.swaps_phase t.0) (phases.phase_word was)
             (phases.phase_word to) (phases.phase_word p) seat.old seat.new) }
     {

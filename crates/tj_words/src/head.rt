@@ -20,7 +20,9 @@ impl Head {
     /// The word of the head.
     pub fn word(self) -> u64
         requires { HasWord self }
+        // The word of a head is that of the definition.
         ensures word { result ≡ head_word self }
+        // It stands for this head.
         ensures back { head_in result ≡ self }
     {
         match self {
@@ -33,7 +35,9 @@ impl Head {
     /// The head that a word stands for.
     pub fn of_word(word: u64) -> Head
         requires { word ≤ 2 ^ 32 }
+        // The head of a word is that of the definition.
         ensures head { result ≡ head_in word }
+        // Its word is this word.
         ensures back { head_word result ≡ word }
     {
         match word {

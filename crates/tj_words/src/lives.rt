@@ -22,9 +22,14 @@ impl<B: Body> Laid<B> {
         requires table { seat.old.table_id ≡ self.now.table.shared.table_id }
         requires may { MayRaiseLive (program_of B.places B.awaits B.left B.asks B.then)
             seat.old.me }
+        // The seat is one of the same table.
         ensures table { seat.new.table_id ≡ seat.old.table_id }
+        // It is the same seat.
         ensures id { seat.new.id ≡ seat.old.id }
+        // The seat has one token more; a record that was put into the slot taken last is home, and
+        // its slot given back.
         ensures me { seat.new.me ≡ live_raised seat.old.me }
+        // The seat's log is longer by one entry: 1 was added to LIVE.
         ensures log { (n : ℕ) × IsLogged call.raises_live 1 0 n seat.old seat.new }
     {
         self.table.fetch_add::<LiveAdd>(seat, LIVE, 1);
@@ -36,9 +41,14 @@ impl<B: Body> Laid<B> {
         requires table { seat.old.table_id ≡ self.now.table.shared.table_id }
         requires may { MayLowerLive (program_of B.places B.awaits B.left B.asks B.then)
             seat.old.me }
+        // The seat is one of the same table.
         ensures table { seat.new.table_id ≡ seat.old.table_id }
+        // It is the same seat.
         ensures id { seat.new.id ≡ seat.old.id }
+        // The seat has one token less; where a record was put into the slot taken last, it is home,
+        // its slot is given back, and the task that has alarmed has left the seat.
         ensures me { seat.new.me ≡ live_lowered seat.old.me }
+        // The seat's log is longer by one entry: 1 was subtracted from LIVE.
         ensures log { (n : ℕ) × IsLogged call.lowers_live 1 0 n seat.old seat.new }
     {
         self.table.fetch_sub::<LiveSub>(seat, LIVE, 1);
@@ -51,24 +61,35 @@ impl<B: Body> Laid<B> {
         requires some { 0 < w }
         requires known { w ≤ 2 }
         requires refused { w ≡ 1 → 0 < seat.old.me.0.refused }
+        // The seat is one of the same table.
         ensures table { seat.new.table_id ≡ seat.old.table_id }
+        // It is the same seat.
         ensures id { seat.new.id ≡ seat.old.id }
+        // The seat has made a step, of which its view notes that it stored this number into STOP,
+        // and has it among what was stored; nothing else of it is changed.
         ensures me { seat.new.me
             ≡ (stored_stop w seat.old.me.0, seat.old.me.1) }
+        // The seat's log is longer by one entry: this number was stored into STOP.
         ensures log { IsLogged call.stops w 0 w seat.old seat.new }
     {
         self.table.store::<StopStore>(seat, STOP, w);
     }
 
     /// Puts a record into the slot of t, or takes it out. The seat has taken that slot last.
+    // Of the slot taken last alone: a step can give back only the first of a seat's slots.
     #[inline(always)]
     pub fn slot_swap(&self, seat: &mut WSeat<B>, t: CellId, rec: Option<Rec<B>>) -> Option<Rec<B>>
         requires table { seat.old.table_id ≡ self.now.table.shared.table_id }
         requires slot { HasSlot t.0 seat.old.me }
+        // The seat is one of the same table.
         ensures table { seat.new.table_id ≡ seat.old.table_id }
+        // It is the same seat.
         ensures id { seat.new.id ≡ seat.old.id }
+        // What is given is what lay in the slot.
         ensures found { seat.old.me.1 ≡ (t.0, result) ∷ rest seat.old.me.1 }
+        // The record that is passed lies in the slot, and nothing else of the seat is changed.
         ensures me { seat.new.me ≡ (seat.old.me.0, (t.0, rec) ∷ rest seat.old.me.1) }
+        // No step was made: the seat's log is as it was.
         ensures log { LogStays seat.old seat.new }
     {
         self.table.exchange(seat, t.0 as usize, rec)

@@ -39,11 +39,19 @@ impl<B: Body> Laid<B> {
     /// LIVE. Where it is 0, nothing goes on any more. The view says what was loaded.
     pub fn live(&self, seat: &mut WSeat<B>) -> u32
         requires table { seat.old.table_id ≡ self.now.table.shared.table_id }
+        // The seat is the same one of the same table, with the same slots.
         ensures seat { IsSameSeat seat.old seat.new }
+        // Where LIVE is loaded as 0, the seat knows it, and its view has this as the last of its
+        // notes.
         ensures rested { result ≡ 0 → seat.new.me.0 ≡ saw_rest seat.old.me.0 }
+        // Where it isn't 0, the seat has made a step, and its view has this, with what was found,
+        // as the last of its notes.
         ensures live { result ≢ 0 → seat.new.me.0 ≡ saw_live result seat.old.me.0 }
+        // In some table under the law a seat has the view before the call while LIVE is this
+        // number.
         ensures moment { WasSo (program_of B.places B.awaits B.left B.asks B.then) live_at result
             seat.old.me.0 }
+        // The seat's log is longer by one entry: LIVE was loaded, and this number found.
         ensures log { IsLogged call.sees_live 0 0 result seat.old seat.new }
     {
         self.table.load::<LiveLoad>(seat, LIVE) as u32
@@ -52,14 +60,24 @@ impl<B: Body> Laid<B> {
     /// STOP. It is 1 only where the meaning is full. The view says what was loaded last.
     pub fn stopped(&self, seat: &mut WSeat<B>) -> u64
         requires table { seat.old.table_id ≡ self.now.table.shared.table_id }
+        // The seat is the same one of the same table, with the same slots.
         ensures seat { IsSameSeat seat.old seat.new }
+        // The seat has made a step, and its view says that this was loaded last, and has it among
+        // what was told and as the last of its notes.
         ensures view { seat.new.me.0 ≡ saw_stop result seat.old.me.0 }
+        // STOP is 0, 1 or 2.
         ensures stop { result ≤ 2 }
+        // Where it is 1, the meaning of the program with the number of cells that the view names is
+        // full.
         ensures full { result ≡ 1
             → NamesFull (program_of B.places B.awaits B.left B.asks B.then) seat.old.me.0 }
+        // It isn't 0 where this seat has stored something there.
         ensures stands { (n : ℕ) → IsIn n seat.old.me.0.stored → result ≢ 0 }
+        // In some table under the law a seat has the view before the call while STOP is this
+        // number.
         ensures moment { WasSo (program_of B.places B.awaits B.left B.asks B.then) stop_at result
             seat.old.me.0 }
+        // The seat's log is longer by one entry: STOP was loaded, and this number found.
         ensures log { IsLogged call.sees_stop 0 0 result seat.old seat.new }
     {
         self.table.load::<StopLoad>(seat, STOP)
@@ -118,12 +136,19 @@ impl<B: Body> Laid<B> {
     pub fn head(&self, seat: &mut WSeat<B>, p: CellId) -> Head
         requires table { seat.old.table_id ≡ self.now.table.shared.table_id }
         requires cell { p.0 < self.now.cells }
+        // The seat is the same one of the same table, with the same slots.
         ensures seat { IsSameSeat seat.old seat.new }
+        // Where the head is shut, the seat knows that it is, and that something has become of the
+        // cell.
         ensures shut { result ≡ Head.Shut
             → FindsShut (program_of B.places B.awaits B.left B.asks B.then)
             self.now.cells p.0 seat.old.me.0 seat.new.me.0 }
+        // Where it is open, the seat knows the chain that it begins, of which each chain that it
+        // found there before is an end.
         ensures open { result ≢ Head.Shut
             → FindsChain self.now.cells p.0 result seat.old.me.0 seat.new.me.0 }
+        // The seat's log is longer by one entry: HEAD of the cell was loaded, and the word of this
+        // head found.
         ensures log { IsLogged (call.sees_head p.0) 0 0 (heads.head_word result) seat.old seat.new }
     {
         Head::of_word(self.table.load::<HeadLoad>(seat, head_at(p)))
@@ -133,13 +158,22 @@ impl<B: Body> Laid<B> {
     pub fn next_of(&self, seat: &mut WSeat<B>, t: CellId) -> Head
         requires table { seat.old.table_id ≡ self.now.table.shared.table_id }
         requires cell { t.0 < self.now.cells }
+        // The seat is the same one of the same table, with the same slots.
         ensures seat { IsSameSeat seat.old seat.new }
+        // The seat has made a step, of which its view notes that it found the word of this head in
+        // NEXT of the task.
         ensures view { seat.new.me.0
             ≡ noted_step (Noted.Next t.0) (heads.head_word result) seat.old.me.0 }
+        // It names one of the cells of the table, or nothing.
         ensures small { heads.head_word result ≤ self.now.cells }
+        // Of the first task of the seat's rest NEXT names the next one of the rest.
         ensures first { NextTold t.0 result seat.old.me.0 }
+        // In some table under the law a seat has the view before the call while NEXT of the task is
+        // the word of this head.
         ensures moment { WasSo (program_of B.places B.awaits B.left B.asks B.then) (next_at t.0)
             (heads.head_word result) seat.old.me.0 }
+        // The seat's log is longer by one entry: NEXT of the task was loaded, and the word of this
+        // head found.
         ensures log { IsLogged (call.sees_next t.0) 0 0 (heads.head_word result) seat.old seat.new }
     {
         Head::of_word(self.table.load::<NextLoad>(seat, next_at(t)))
@@ -150,9 +184,17 @@ impl<B: Body> Laid<B> {
         requires table { seat.old.table_id ≡ self.now.table.shared.table_id }
         requires cell { c.0 < self.now.cells }
         requires may { MayRead f c.0 seat.old.me.0 }
+        // The seat is the same one of the same table, with the same slots.
         ensures seat { IsSameSeat seat.old seat.new }
+        // After a load of TAG as another number than 0 the seat knows what has become of the cell:
+        // an entry that the cell's name has in some round, and the same one as before, if it knew
+        // one. TAG is 0 only if it knew none. If it knew one, BITS says what this entry says. After
+        // the load of a word of the tree of forks the seat knows the word, and a tree that has all
+        // nodes that it has seen.
         ensures sees { SeesOnce (program_of B.places B.awaits B.left B.asks B.then)
             self.now.cells f c.0 result seat.old.me.0 seat.new.me.0 }
+        // The seat's log is longer by one entry: this word of the cell was loaded, and this number
+        // found.
         ensures log { IsLogged (call.sees_once c.0 f) 0 0 result seat.old seat.new }
     {
         links_lead_to_tasks();

@@ -24,8 +24,13 @@ impl<B: Body> Laid<B> {
         requires table { seat.old.table_id ≡ self.now.table.shared.table_id }
         requires cell { c.0 < self.now.cells }
         requires may { MayPutOwner c.0 (owner_number o) seat.old.me.0 }
+        // The seat is the same one of the same table, with the same slots.
         ensures seat { IsSameSeat seat.old seat.new }
+        // A cell in hand is there from now on, with its first owner; a promise goes to the end of
+        // the child's list; a cell that nobody owns is closed, and its BITS and TAG are due.
         ensures view { PutsOwner c.0 (owner_number o) seat.old.me.0 seat.new.me.0 }
+        // The seat's log is longer by one entry: the word of this owner was stored into OWN of the
+        // cell.
         ensures log { IsLogged (call.puts_owner c.0) (owner_word (owner_number o)) 0
             (owner_word (owner_number o)) seat.old seat.new }
     {
@@ -41,9 +46,13 @@ impl<B: Body> Laid<B> {
         requires cell { c.0 < self.now.cells }
         requires may { MayPutOnce (program_of B.places B.awaits B.left B.asks B.then) f c.0 v
             seat.old.me.0 }
+        // The seat is the same one of the same table, with the same slots.
         ensures seat { IsSameSeat seat.old seat.new }
+        // The word is written, and due no more. After BITS the seat is to write TAG of the same
+        // entry; after TAG it knows what has become of the cell, and is to shut its head.
         ensures view { PutsOnce (program_of B.places B.awaits B.left B.asks B.then) f c.0 v
             seat.old.me.0 seat.new.me.0 }
+        // The seat's log is longer by one entry: this number was stored into this word of the cell.
         ensures log { IsLogged (call.puts_once c.0 f) v 0 v seat.old seat.new }
     {
         match f {

@@ -37,7 +37,9 @@ pub enum Phase {
 impl Phase {
     /// The word of the phase.
     pub fn word(self) -> u64
+        // The word of a phase is that of the definition.
         ensures word { result ≡ phase_word self }
+        // It stands for this phase.
         ensures back { phase_in result ≡ self }
     {
         match self {
@@ -54,7 +56,9 @@ impl Phase {
     pub fn of_word(word: u64) -> Phase
         requires code { phase_word (phase_in word) ≡ word }
         requires cell { word / 16 < 2 ^ 32 }
+        // The phase of a word is that of the definition.
         ensures phase { result ≡ phase_in word }
+        // Its word is this word.
         ensures back { phase_word result ≡ word }
     {
         let cell = CellId((word / 16) as u32);

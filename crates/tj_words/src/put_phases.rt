@@ -33,9 +33,16 @@ impl<B: Body> Laid<B> {
         requires waits { WaitsBelow self.now.cells p }
         requires may { MayPutPhase (program_of B.places B.awaits B.left B.asks B.then) t.0 p
             seat.old.me }
+        // The seat is one of the same table.
         ensures table { seat.new.table_id ≡ seat.old.table_id }
+        // It is the same seat.
         ensures id { seat.new.id ≡ seat.old.id }
+        // What the seat has for the task is what the phase says. A task that is ready, parked or
+        // has ended has left the seat; of one that is parked or has ended the slot with its record
+        // is given back; a parked one is to be pushed.
         ensures puts { PutsPhase t.0 p seat.old.me seat.new.me }
+        // The seat's log is longer by one entry: the word of this phase was stored into PHASE of
+        // the cell.
         ensures log { IsLogged (call.puts_phase t.0) (phase_word p) 0 (phase_word p)
             seat.old seat.new }
     {

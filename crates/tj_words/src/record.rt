@@ -102,6 +102,8 @@ impl<B: Drop> Rec<B> {
         others: Vec<Held>,
         promises: Vec<CellId>,
     ) -> Result<Rec<B>, Oom>
+        // The record of a task at its start holds and owns the task itself and then what is given,
+        // and the task has been answered nothing, has made and printed nothing, and hasn't ended.
         ensures { IfOk result (λ rec. rec
             ≡ start_record cell body (own cell ∷ others.items) (cell ∷ promises.items)) }
     {

@@ -14,7 +14,9 @@ impl<B> Rec<B> {
     /// The task holds one cell more, at the next place.
     #[inline(always)]
     pub fn hold(&mut self, h: Held) -> Result<(), Oom>
+        // The record holds one cell more, at its end, and all else of it is as before.
         ensures ok { OnOk result (self.new ≡ record self.old { held = self.old.held ++ h ∷ [] }) }
+        // What is refused leaves the record as it was.
         ensures err { OnErr result (self.new ≡ self.old) }
     {
         self.parts.others.push(h)?;
@@ -25,6 +27,7 @@ impl<B> Rec<B> {
     #[inline(always)]
     pub fn own(&mut self, p: CellId) -> Result<(), Oom>
         requires { self.old.owned ≢ [] }
+        // It owns one promise more, and all else of it is as before.
         ensures ok { OnOk result (self.new ≡ record self.old { owned = self.old.owned ++ p ∷ [] }) }
         ensures err { OnErr result (self.new ≡ self.old) }
     {
@@ -36,6 +39,7 @@ impl<B> Rec<B> {
     #[inline(always)]
     pub fn disown(&mut self, index: usize)
         requires { index < length (drop 1 self.old.owned) }
+        // It owns one promise less, the one at the index, and all else of it is as before.
         ensures { self.new ≡ record self.old {
           owned = self.old.cell ∷ remove (drop 1 self.old.owned) index;
         } }
@@ -47,6 +51,7 @@ impl<B> Rec<B> {
     #[inline(always)]
     pub fn set_promises(&mut self, promises: Vec<CellId>)
         requires { self.old.owned ≢ [] }
+        // It owns its result and these promises, and all else of it is as before.
         ensures { self.new ≡ record self.old { owned = self.old.cell ∷ promises.items } }
     {
         self.parts.promises = promises;
@@ -56,6 +61,7 @@ impl<B> Rec<B> {
     #[inline(always)]
     pub fn count_made(&mut self)
         requires { self.old.made + 1 < 2 ^ 32 }
+        // It has made one thing more, and all else of it is as before.
         ensures { self.new ≡ record self.old { made = self.old.made + 1 } }
     {
         self.parts.made += 1;
@@ -64,6 +70,7 @@ impl<B> Rec<B> {
     /// The task prints a number.
     #[inline(always)]
     pub fn print(&mut self, number: i64) -> Result<(), Oom>
+        // It has printed one number more, and all else of it is as before.
         ensures ok { OnOk result (self.new
             ≡ record self.old { prints = self.old.prints ++ number ∷ [] }) }
         ensures err { OnErr result (self.new ≡ self.old) }
@@ -75,6 +82,7 @@ impl<B> Rec<B> {
     /// This is what the body is to be given.
     #[inline(always)]
     pub fn set_answer(&mut self, answer: Answer)
+        // What the body is to be given is set, and all else of it is as before.
         ensures { self.new ≡ record self.old { answer = answer } }
     {
         self.parts.answer = answer;
@@ -84,6 +92,7 @@ impl<B> Rec<B> {
     /// `Lost`.
     #[inline(always)]
     pub fn set_wait(&mut self, place: u32, spare: bool)
+        // It waits at the place, and all else of it is as before.
         ensures { self.new ≡ record self.old { answer = RefAt place; spare = spare } }
     {
         self.parts.answer = Answer::RefAt(place);
@@ -93,6 +102,7 @@ impl<B> Rec<B> {
     /// This is how the task ends.
     #[inline(always)]
     pub fn set_finish(&mut self, finish: Finish)
+        // It ends like this, and all else of it is as before.
         ensures { self.new ≡ record self.old { finish = Some finish } }
     {
         self.parts.finish = Some(finish);
@@ -102,6 +112,8 @@ impl<B> Rec<B> {
     #[inline(always)]
     pub fn end(&mut self)
         requires { self.old.owned ≢ [] }
+        // It owns nothing, it owes what it owned beside its result, and all else of it is as
+        // before.
         ensures { self.new ≡ ended_record self.old }
     {
         self.parts.owes = true;
@@ -115,8 +127,11 @@ impl<B: Body> Rec<B> {
     pub fn next(&mut self, alloc: Global) -> Result<Ask<B>, Oom>
         requires fits { Fits (B.awaits self.old.body) (B.places self.old.body) self.old.answer }
         requires room { B.places self.old.body < 2 ^ 31 }
+        // The ask is that of the body for the record's answer.
         ensures ask { IfOk result (λ ask. ask ≡ B.asks self.old.body self.old.answer) }
+        // The body is what it is from then on.
         ensures body { IfOk result (λ _. self.new.body ≡ B.then self.old.body self.old.answer) }
+        // All else of the record is as before, also where memory is lacking.
         ensures others { self.new ≡ record self.old { body = self.new.body } }
     {
         let answer = self.parts.answer;

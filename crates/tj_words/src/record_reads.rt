@@ -10,6 +10,9 @@ impl<B> Rec<B> {
     /// The task.
     #[inline(always)]
     pub fn cell(&self) -> CellId
+        // The task is the record's, and so is what its body is to be given, whether a broken cell
+        // is answered in the wait, how it ended, how many things it has made, what it has printed,
+        // and what it owes.
         ensures { result ≡ self.now.cell }
     {
         self.parts.cell
@@ -27,6 +30,7 @@ impl<B> Rec<B> {
     #[inline(always)]
     pub fn places(&self) -> u32
         requires few { length self.now.held < 2 ^ 32 }
+        // How many cells it holds, itself among them, is what the record says.
         ensures { result ≡ length self.now.held }
     {
         self.parts.others.len() as u32 + 1
@@ -36,6 +40,7 @@ impl<B> Rec<B> {
     #[inline(always)]
     pub fn at(&self, place: u32) -> Held
         requires { place < length self.now.held }
+        // The cell at a place is the record's.
         ensures { result ≡ held_at self.now.held place }
     {
         if place == 0 {
@@ -58,7 +63,9 @@ impl<B> Rec<B> {
     /// What it owns beside its result, which it owns first, until it has ended.
     #[inline(always)]
     pub fn promises(&self) -> &[CellId]
+        // What it owns beside its result is all that it owns but the first.
         ensures promises { result.now ≡ drop 1 self.now.owned }
+        // Where it owns something, its result is the first.
         ensures first { self.now.owned ≢ [] → self.now.owned ≡ self.now.cell ∷ result.now }
     {
         if self.parts.owes {

@@ -56,7 +56,9 @@ impl<B: Body> Model for RestWords<B> {
 impl<B: Body> RestWords<B> {
     /// How many cells were drawn: no more than the table was made for.
     pub fn drawn(&self) -> u32
+        // It tells how many cells were drawn.
         ensures all { result ≡ length self.now.cells }
+        // They are no more than the table was made for.
         ensures few { result ≤ self.now.limit }
     {
         self.closed.drawn()
@@ -65,6 +67,7 @@ impl<B: Body> RestWords<B> {
     /// What the words show of a cell.
     pub fn cell(&self, c: CellId) -> RestCell
         requires { c.0 < length self.now.cells }
+        // It tells what the words show of a cell.
         ensures { IsShown self.now.cells c.0 result }
     {
         self.closed.cell(c)
@@ -73,7 +76,9 @@ impl<B: Body> RestWords<B> {
     /// The record of a task, and nothing for a promise.
     pub fn rec(&self, c: CellId) -> Option<&Rec<B>>
         requires { c.0 < length self.now.cells }
+        // It gives the record that lies in the slot of the cell.
         ensures record { option_map (λ r. r.now) result ≡ get_or self.now.records c.0 None }
+        // There is none exactly where the cell is a promise.
         ensures promise { (result ≡ None) ↔ IsPromise self.now.cells c.0 }
     {
         self.records.get(c.0 as usize)
@@ -81,7 +86,9 @@ impl<B: Body> RestWords<B> {
 
     /// The words without the records.
     pub fn into_closed(self) -> Closed
+        // What is given shows the same of each cell.
         ensures same { result ≡ self.cells }
+        // Its cells are no more than the table was made for.
         ensures few { length result ≤ self.limit }
     {
         self.closed
@@ -93,25 +100,36 @@ impl<B: Body> Laid<B> {
     pub fn rest(self, seat: WSeat<B>) -> RestWords<B>
         requires table { seat.table_id ≡ self.table.shared.table_id }
         requires may { MayRest seat.me.0 }
+        // The number of cells is that of the table.
         ensures limit { result.limit ≡ self.cells }
+        // So is the root's body.
         ensures root { result.root ≡ self.root.value }
+        // And so is the rule.
         ensures strict { result.strict ≡ self.strict }
+        // No more cells were drawn than the table has.
         ensures drawn { length result.cells ≤ self.cells }
 
-        // Nothing goes on, and no wake was lost: nothing has become of what a task waits for.
+        // Each task has ended, or is parked or has alarmed; and nothing has become of a cell that a
+        // task waits for.
         ensures rest { AreAtRest result.cells }
 
-        // The words and the records are those of the meaning, which isn't full.
+        // The meaning isn't full, and what stands is exactly it: its cells, each once and none
+        // other; TAG by the entry of each; each task's history, told by its phase, by what it owns
+        // and by its record, and no other record.
         ensures meaning { HaveMeaning (program_of B.places B.awaits B.left B.asks B.then self.strict
             self.root.value) self.cells result.cells result.records }
 
-        // Each cycle has a member that has alarmed, and each task that has alarmed is on one.
+        // Each standing cycle has a member that has alarmed.
         ensures cycles { AreCyclesAlarmed result.cells }
+        // Each task that has alarmed is on a standing cycle.
         ensures alarms { AreAlarmsOnCycles result.cells }
+        // Each cycle of the meaning's waits has a member whose task has alarmed.
         ensures meant_cycles { AreCyclesOfMeaningAlarmed (program_of B.places B.awaits B.left B.asks
             B.then self.strict self.root.value) self.cells result.cells }
 
-        // They are the end of a run from the first state, by step calls, splits and merges of idle seats.
+        // The words and the records are the end of a run of the table from the first state: by step
+        // calls, each of a seat of which what it asks is so, by splits, and by merges of idle
+        // seats. The last seat was one of that table.
         ensures run { EndsRun (program_of B.places B.awaits B.left B.asks B.then) self.cells
             self.strict self.root.value seat result.cells result.records }
     {

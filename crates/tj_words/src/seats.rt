@@ -10,11 +10,17 @@ impl<B: Body> Laid<B> {
     pub fn split(&self, mut seat: WSeat<B>) -> (WSeat<B>, WSeat<B>)
         requires table { seat.table_id ≡ self.now.table.shared.table_id }
         requires room { MaySplit seat.me.0 }
+        // The first seat is one of the same table.
         ensures table { result.0.table_id ≡ seat.table_id }
+        // So is the second.
         ensures other_table { result.1.table_id ≡ seat.table_id }
+        // The first seat's lot is less by the least lot, and all else of it is as before.
         ensures view { result.0.me ≡ (left_half seat.me.0, seat.me.1) }
+        // The second seat has the least lot, knows what the first knows, and holds nothing.
         ensures other_view { result.1.me ≡ (right_half seat.me.0, []) }
+        // The first seat's log is as before, and the second's is empty.
         ensures log { (result.0.log ≡ seat.log) × (result.1.log ≡ []) }
+        // The first seat has taken in what it had taken in before, and the second nothing.
         ensures took { (result.0.took ≡ seat.took) × (result.1.took ≡ []) }
     {
         let other = self.table.split_seat(&mut seat);
@@ -28,10 +34,16 @@ impl<B: Body> Laid<B> {
         requires slots { (a.me.1 ≡ []) × (b.me.1 ≡ []) }
         requires idle { IsIdle a.me.0 }
         requires other_idle { IsIdle b.me.0 }
+        // The merged seat is one of the same table.
         ensures table { result.table_id ≡ a.table_id }
+        // It knows what either of the two knew, and has both lots.
         ensures view { result.me ≡ (both a.me.0 b.me.0, []) }
+        // It may be merged again.
         ensures idle { IsIdle result.me.0 }
+        // The merged seat's log is that of the first.
         ensures log { result.log ≡ a.log }
+        // Beside it the seat has what the first had taken in, then the log of the second and what
+        // that had taken in.
         ensures took { result.took ≡ a.took ++ b.log ++ b.took }
     {
         self.table.join_seat(&mut a, b);

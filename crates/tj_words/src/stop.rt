@@ -15,9 +15,13 @@ impl Stop {
     /// The word STOP.
     #[inline(always)]
     pub fn word(self) -> u64
+        // The word of a cause to stop is that of the definition.
         ensures word { result ≡ stop_word self }
+        // It stands for this cause.
         ensures back { stop_in result ≡ Some self }
+        // It isn't 0.
         ensures some { 0 < result }
+        // It is 2 at most.
         ensures known { result ≤ 2 }
     {
         match self {
@@ -30,8 +34,11 @@ impl Stop {
     #[inline(always)]
     pub fn of_word(word: u64) -> Option<Stop>
         requires { word ≤ 2 }
+        // The cause that STOP says is that of the definition.
         ensures stop { result ≡ stop_in word }
+        // There is none only where STOP is 0.
         ensures none { result ≡ None → word ≡ 0 }
+        // Its word is this word.
         ensures back { IfSome result (λ why. stop_word why ≡ word) }
     {
         match word {

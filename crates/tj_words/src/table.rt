@@ -107,13 +107,20 @@ impl<B: Body> Laid<B> {
         requires some { 0 < cells }
         requires few { cells ≤ MAX_CELLS }
         requires root { IsFresh B.places B.awaits B.left 1 root }
+        // A new table has the given number of cells.
         ensures cells { IfOk result (λ made. made.0.cells ≡ cells) }
+        // Its rule is the given one.
         ensures strict { IfOk result (λ made. made.0.strict ≡ strict) }
+        // The root of the program that it goes by is the given body.
         ensures root { IfOk result (λ made. made.0.root.value ≡ root) }
+        // The seat is one of this table.
         ensures table { IfOk result (λ made. made.1.table_id ≡ made.0.table.shared.table_id) }
+        // The first seat has all lots, holds nothing, and knows that cell 0 is the root. That the
+        // first state is within the law is what the making of the table asks.
         ensures view { IfOk result (λ made. made.1.me ≡ (first_view cells root strict, [])) }
 
-        // No step was made: so by the law of logs the words and the slots are the first ones.
+        // The first seat is fresh: it has made no step, was never split, and has taken in no other
+        // one. So by `tj_words::fresh_is_first` the words and the slots are the first ones.
         ensures fresh { IfOk result (λ made. logs.IsFresh made.1) }
     {
         start_meets_facts();
@@ -147,6 +154,7 @@ impl<B: Body> Laid<B> {
 
     /// Whether tasks join only those that they are before.
     pub fn strict(&self) -> bool
+        // The rule of the table is told.
         ensures { result ≡ self.now.strict }
     {
         self.strict

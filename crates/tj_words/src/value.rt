@@ -8,8 +8,11 @@ use tj_base::CellId;
 
 /// TAG and BITS of a cell that is filled, or broken: BITS of a broken one is 0.
 pub fn value_words(fill: Option<Fill>) -> (u64, u64)
+    // TAG tells whether a cell is filled with a number, a promise or a task, or is broken.
     ensures tag { result.0 ≡ values.tag_word fill }
+    // With it BITS tells the number or the cell.
     ensures bits { values.fill_in result.0 result.1 ≡ fill }
+    // BITS of a broken cell is 0.
     ensures broken { fill ≡ None → result.1 ≡ 0 }
 {
     match fill {
@@ -23,6 +26,7 @@ pub fn value_words(fill: Option<Fill>) -> (u64, u64)
 /// What TAG and BITS of a cell stand for of which something has become: `None` where it is broken.
 pub fn value_of_words(tag: u64, bits: u64) -> Option<Fill>
     requires { values.NamesCell tag → bits < 2 ^ 32 }
+    // What TAG and BITS of a closed cell stand for is what the definition says.
     ensures { result ≡ values.fill_in tag bits }
 {
     match tag {

@@ -127,6 +127,7 @@ pub enum Noted {
 
 /// A step: the word that it found, or that it stored, where it is the store of STOP; and how many
 /// words that are written once the seat had loaded before.
+// By the count a value that was looked at after LIVE was 0 is told from one looked at before.
 #[derive(Drop)]
 pub struct Note {
     pub step: Noted,

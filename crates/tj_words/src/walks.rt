@@ -42,13 +42,23 @@ impl<B: Body> Laid<B> {
     pub fn count(&self, seat: &mut WSeat<B>, by: Option<CellId>) -> u32
         requires table { seat.old.table_id ≡ self.now.table.shared.table_id }
         requires walks { MayLoadBy by (λ t p way w. MayCount way w) seat.old.me.0 }
+        // The seat is the same one of the same table, with the same slots.
         ensures seat { IsSameSeat seat.old seat.new }
+        // A walker that is named has its bound from then on; where none is, the view notes what the
+        // step found in COUNT, of which the answer is as many as are cells of the table.
         ensures view { ReadsCount by self.now.cells result seat.old.me.0 seat.new.me.0 }
+        // The answer is the lesser of the number of cells and of a number that COUNT is in some
+        // table under the law in which a seat has the view before the call; where no walker is
+        // named, the view notes that number.
         ensures moment { (n : ℕ) × (result ≡ min n self.now.cells)
             × (by ≡ None → seat.new.me.0 ≡ loaded_plain Noted.Count n seat.old.me.0)
             × WasSo (program_of B.places B.awaits B.left B.asks B.then) count_at n seat.old.me.0 }
+        // Some cell is there.
         ensures some { 0 < result }
+        // There are no more than the table has.
         ensures few { result ≤ self.now.cells }
+        // The seat's log is longer by one entry: COUNT was loaded, and a number found of which the
+        // answer is as many as are cells of the table.
         ensures log { (n : ℕ) × (result ≡ min n self.now.cells)
             × IsLogged call.counts 0 0 n seat.old seat.new }
     {
@@ -85,11 +95,21 @@ impl<B: Body> Laid<B> {
         requires cell { c.0 < self.now.cells }
         requires walks { MayLoadBy by (λ t p way w. (c.0 ≡ present p w.trail) × MayLoadOwner w)
             seat.old.me.0 }
+        // The seat is the same one of the same table, with the same slots.
         ensures seat { IsSameSeat seat.old seat.new }
+        // A walker that is named has read the owner of its present cell, for the first or for the
+        // second time; where none is, the view notes that the step found the word of this owner in
+        // OWN of the cell, and if there is an owner, the seat knows both from then on, with their
+        // names.
         ensures view { LoadsOwner by self.now.cells c.0 result seat.old.me.0 seat.new.me.0 }
+        // An owner is one of the cells of the table.
         ensures task { (u : CellId) → result ≡ Some u → u.0 < self.now.cells }
+        // In some table under the law a seat has the view before the call while OWN of the cell is
+        // the word of this owner.
         ensures moment { WasSo (program_of B.places B.awaits B.left B.asks B.then) (own_at c.0)
             (owner_word (owner_number result)) seat.old.me.0 }
+        // The seat's log is longer by one entry, whether a walker is named or not: OWN of the cell
+        // was loaded, and the word of this owner found.
         ensures log { IsLogged (call.sees_owner c.0) 0 0 (owner_word (owner_number result))
             seat.old seat.new }
     {
@@ -125,12 +145,23 @@ impl<B: Body> Laid<B> {
         requires table { seat.old.table_id ≡ self.now.table.shared.table_id }
         requires cell { t.0 < self.now.cells }
         requires walks { MayLoadBy by (λ walker p way w. MayLoadWait walker t.0 w) seat.old.me.0 }
+        // The seat is the same one of the same table, with the same slots.
         ensures seat { IsSameSeat seat.old seat.new }
+        // A walker that is named has read what the owner waits for; where none is, the view notes
+        // that the step found the word of this phase in PHASE of the cell, and has the way of the
+        // wait where the task is the first of the seat's rest. A seat without such a rest knows the
+        // cell from then on, with its name, where it is a task that has begun.
         ensures view { LoadsPhase by self.now.cells t.0 result seat.old.me.0 seat.new.me.0 }
+        // The first task of the seat's rest is found parked on the rest's cell.
         ensures first { by ≡ None → FirstTold t.0 result seat.old.me.0 }
+        // A cell that is waited for is one of those of the table.
         ensures wait { (c : ℕ) → wait_in result ≡ Some c → c < self.now.cells }
+        // In some table under the law a seat has the view before the call while PHASE of the cell
+        // is the word of this phase.
         ensures moment { WasSo (program_of B.places B.awaits B.left B.asks B.then) (phase_at t.0)
             (phase_word result) seat.old.me.0 }
+        // The seat's log is longer by one entry, whether a walker is named or not: PHASE of the
+        // cell was loaded, and the word of this phase found.
         ensures log { IsLogged (call.sees_phase t.0) 0 0 (phase_word result) seat.old seat.new }
     {
         match by {
@@ -161,10 +192,15 @@ impl<B: Body> Laid<B> {
     pub fn others(&self, seat: &mut WSeat<B>, by: CellId) -> u32
         requires table { seat.old.table_id ≡ self.now.table.shared.table_id }
         requires walks { IsWalking by.0 (λ p way w. MayReadOthers way w) seat.old.me.0 }
+        // The seat is the same one of the same table, with the same slots.
         ensures seat { IsSameSeat seat.old seat.new }
+        // The walker has read OTHERS as this number.
         ensures view { seat.new.me.0 ≡ read_on by.0 (others_read result) seat.old.me.0 }
+        // In some table under the law a seat has the view before the call while OTHERS is this
+        // number.
         ensures moment { WasSo (program_of B.places B.awaits B.left B.asks B.then) others_at result
             seat.old.me.0 }
+        // The seat's log is longer by one entry: OTHERS was loaded, and this number found.
         ensures log { IsLogged (call.sees_others_by by.0) 0 0 result seat.old seat.new }
     {
         self.walker_others::<Brand>(seat, by) as u32
@@ -191,8 +227,11 @@ impl<B: Body> Laid<B> {
     pub fn others_up(&self, seat: &mut WSeat<B>, t: CellId)
         requires table { seat.old.table_id ≡ self.now.table.shared.table_id }
         requires runs { MayRaise t.0 seat.old.me.0 }
+        // The seat is the same one of the same table, with the same slots.
         ensures seat { IsSameSeat seat.old seat.new }
+        // The task has raised OTHERS, and nothing else of the view is changed.
         ensures view { seat.new.me.0 ≡ turned t.0 (λ _. Does.Raised) seat.old.me.0 }
+        // The seat's log is longer by one entry: 1 was added to OTHERS.
         ensures log { (n : ℕ) × IsLogged (call.raises_others t.0) 1 0 n seat.old seat.new }
     {
         self.add_other::<Brand>(seat, t);
@@ -216,8 +255,11 @@ impl<B: Body> Laid<B> {
     pub fn others_down(&self, seat: &mut WSeat<B>)
         requires table { seat.old.table_id ≡ self.now.table.shared.table_id }
         requires cleared { 0 < seat.old.me.0.cleared }
+        // The seat is the same one of the same table, with the same slots.
         ensures seat { IsSameSeat seat.old seat.new }
+        // The seat has one cleared wait less to lower OTHERS for.
         ensures view { seat.new.me.0 ≡ lowered seat.old.me.0 }
+        // The seat's log is longer by one entry: 1 was subtracted from OTHERS.
         ensures log { (n : ℕ) × IsLogged call.lowers_others 1 0 n seat.old seat.new }
     {
         event_keeps_facts();

@@ -31,6 +31,7 @@ use Rattle.tj_run.specs.Workers.{IsWorkers}
 module _ {B : Type 0} where
   -- within a turn it has the task of the record, which runs, and nothing else; the task owns its result, and no cell
   -- twice
+  -- the point of the task is the proof's alone: a record goes home, and others who claim it know of some point
   pub record RunsTask (laid : Laid B) (r : Rec B) (me : SeatMe B) : Type 0 where
     pub worker : IsWorkers laid me.0
     pub custody : Custody B

@@ -49,6 +49,7 @@ module _ {B : Type 0} where
     GoesOn (next.Ends f) r v = IsClosing program v r f
 
   -- the seat knows more, still runs the task of the record, and nothing else, and the task goes on like this
+  -- one relation for each arm, so that what holds from ask to ask is stated once
   pub record Goes (program : Bool → B → Program B) (laid : Laid B) (n : Next) (r : Rec B) (v : View B)
       (me : SeatMe B) : Type 0 where
     pub knows : KnowsMore v me.0

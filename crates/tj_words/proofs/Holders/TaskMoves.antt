@@ -80,7 +80,7 @@ module _ {B : Type 0} {program : Program B} {cells : ℕ} {x : Contents B} (r : 
     held_column : find_in after ≡ put (held_of x) t (held_in new t)
     held_column = find_put x.seats.tasks id t ks new m.at (λ j l d e. has_none r j t l e (λ q. d (m.mine j q))) m.same
 
-    -- what is read of what a seat has for a task, or else of its record, is as before where it is for t
+    -- a reading of what seats and homes have for a task stays for each task, if it stays for t
     reads_same : {A : Type 0} (f : Option (Custody B) → Option (Rec B) → A)
         → f (held_in new t) (home_in slots t) ≡ f (held_of x t) (home_of x t) → (u : ℕ)
         → f (find_in after u) (home_in slots u) ≡ f (held_of x u) (home_of x u)

@@ -14,6 +14,7 @@ abbrev pub least_lot : ℕ
 least_lot = 4
 
 -- a view that another seat has taken in: it names no program, and holds no task
+-- (it holds none, or no words at rest could show that no task is unborn)
 abbrev pub IsSpent : {B : Type 0} → View B → Type 0
 IsSpent v = (v.about ≡ None) × (v.tasks ≡ [])
 

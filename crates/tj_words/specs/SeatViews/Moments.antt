@@ -16,6 +16,7 @@ use Rattle.tj_words.specs.Words.Offsets.{word}
 module _ {B : Type 0} (program : Bool → B → Program B) where
   -- in some table under the law a seat has this view while word i is n. It isn't a record, so that no search goes
   -- into it
+  -- data and no record, whose fields would enter each search behind such a call
   pub data WasSo (i n : ℕ) (v : View B) : Type 0 where
     was_so : (key : Key B) (s : State (Option (Rec B)) (View B)) (id : ℕ) → Rule program key s
         → get_elem? s.views id ≡ some v → word s.words i ≡ n → WasSo i n v
