@@ -1,7 +1,7 @@
 -- Lists that loops and open blocks need.
-use Rattle.std.proofs.Common.{◌≡◌, ℕ, suc, ◌+◌, ◌-◌, ◌≤◌, List, [], ◌∷◌, ◌++◌, map, length}
-use Rattle.std.proofs.Common.{replicate, refl, ap, sym, ◌∙◌, append_assoc, arith}
-use Rattle.std.proofs.lemmas.List.{append-nil, length-map, replicate-append-replicate}
+use Rattle.std.proofs.Common.{◌≡◌, ℕ, suc, ◌≤◌, List, [], ◌∷◌, ◌++◌, map, length}
+use Rattle.std.proofs.Common.{refl, ap, sym, ◌∙◌, append_assoc, arith}
+use Rattle.std.proofs.lemmas.List.{append-nil, length-map}
 use Rattle.std.specs.Prelude.{Result, Ok, Err}
 use Rattle.tj_base.specs.declared.value.Pay.{Pay}
 use Rattle.tj_base.specs.declared.cause.Trouble.{Trouble}
@@ -74,10 +74,3 @@ pub length-references : (values : List Pay) → length (references values) ≤ l
 length-references [] = omega arith
 length-references (pay.Num n ∷ values) = omega (arith, length-references values)
 length-references (pay.Ref k ∷ values) = omega (arith, length-references values)
-
--- one zero more
-pub zeros-more : (front items : List Pay) (v : Pay) (at n : ℕ) → n ≤ at → items ≡ front ++ replicate (at - n) v
-    → items ++ v ∷ [] ≡ front ++ replicate (at + 1 - n) v
-zeros-more front items v at n l e = let k : (at - n) + 1 ≡ at + 1 - n = omega arith in
-    ap (λ z. z ++ v ∷ []) e ∙ append_assoc front (replicate (at - n) v) (v ∷ [])
-    ∙ ap (λ z. front ++ z) (replicate-append-replicate (at - n) 1 v) ∙ ap (λ z. front ++ replicate z v) k

@@ -22,6 +22,9 @@ pub(crate) fn held(vars: &[Pay], x: u32) -> Pay
 pub(crate) fn value(vars: &[Pay], e: &Expr) -> Result<Pay, Trouble>
     ensures { result ≡ meaning.value vars.now (expression e.now) }
 {
+    if let Expr::Var(x) = e {
+        return Ok(held(vars, *x));
+    }
     match quick(vars, e) {
         Some(n) => Ok(Pay::Num(n)),
         None => whole(vars, e),

@@ -15,6 +15,7 @@ use tj_body::Ask;
 use tj_syntax::{Arg, Decl, Script};
 
 /// The value of an argument.
+#[inline(always)]
 fn argument(vars: &[Pay], arg: &Arg) -> Result<Pay, Trouble>
     ensures { result ≡ state.argument vars.now (view.argument arg.now) }
 {
@@ -93,8 +94,8 @@ fn variables(mut vars: Vec<Pay>, n: usize) -> Result<Vec<Pay>, Oom>
     ensures { IfOk result (λ all. all.items ≡ vars.items
         ++ replicate (n - length vars.items) (Pay.Num (pos 0))) }
 {
-    for _ in vars.len()..n {
-        vars.push(Pay::Num(0))?;
+    if vars.len() < n {
+        vars.resize(n, Pay::Num(0))?;
     }
     Ok(vars)
 }

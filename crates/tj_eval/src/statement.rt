@@ -38,6 +38,11 @@ impl<'s> State<'s> {
     fn give(&mut self, x: u32, e: &Expr) -> Result<(), Trouble>
         ensures { IsGiven self.old x (view.expression e.now) result self.new }
     {
+        if let Expr::Var(y) = e {
+            let v = held(&self.vars, *y);
+            self.keep(Some(x), v);
+            return Ok(());
+        }
         match quick(&self.vars, e) {
             Some(n) => {
                 self.keep(Some(x), Pay::Num(n));
