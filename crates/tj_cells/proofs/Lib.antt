@@ -8,3 +8,4 @@ pub mod CallsKnowMore
 pub mod SameViews
 pub mod Prelude
 pub mod FillSteps
+pub mod CallLogs

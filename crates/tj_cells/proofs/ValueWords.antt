@@ -93,3 +93,17 @@ module _ {B : Type 0} (program : Bool → B → Program B) (cells p tag bits : �
     where
       on : Begins found.born read.born
       on = subst (λ b. Begins b read.born) (ap (λ (u : View B). u.born) found.view) read.begins
+
+-- TAG of a cell of which something has become is at most 4
+tag_of_small : (e : Entry) → tag_of e ≤ 4
+tag_of_small entry.Broken = omega arith
+tag_of_small (entry.Value (value.Num i)) = omega arith
+tag_of_small (entry.Value (value.Ref r)) = by r.sort where
+  by : (k : Sort) → sort_tag k ≤ 4
+  by sort.Promise = omega arith
+  by sort.Task = omega arith
+
+-- so is one that was loaded, and wasn't 0
+pub tag_small : {B : Type 0} {program : Bool → B → Program B} (cells p tag : ℕ) (v w : View B)
+    → FindsEntry program cells p tag v w → tag ≤ 4
+tag_small cells p tag v w finds = subst (λ n. n ≤ 4) (sym finds.1) (tag_of_small finds.0.entry)

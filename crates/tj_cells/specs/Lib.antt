@@ -3,3 +3,4 @@ pub mod Inner
 pub mod FilledCells
 pub mod SeenValues
 pub mod ValueLogs
+pub mod CallLogs

@@ -1,13 +1,24 @@
 //! Promises and tasks that a running task makes. A draw gives a cell; its words of the tree are
 //! written while the seat has it in hand, and its owner last: from then on others may name it.
-ghost use Rattle.std.specs.Prelude.{◌≡◌, ◌≢◌, ◌+◌, ◌∷◌, IfOk, Some, None, OnErr};
+ghost use Rattle.std.specs.Prelude.{◌≡◌, ◌≢◌, ◌+◌, List, [], ◌∷◌, IfOk, Some, None, OnErr};
 ghost use Rattle.tj_base.specs.declared.cell.Sort.TheVariants as sorts;
 ghost use Rattle.tj_body.specs.Programs.{program_of};
+ghost use Rattle.tj_log.specs.declared.entry.Entry.{Entry};
 ghost use Rattle.tj_tree.specs.Nodes.{InEachTree};
 ghost use Rattle.tj_words.specs.Calls.DrawViews.{FindsNone, new_slots};
 ghost use Rattle.tj_words.specs.Calls.OwnerViews.{handed_promise};
 ghost use Rattle.tj_words.specs.SeatViews.SeatSteps.{IsCellOf, IsSameSeat, IsSeatOf};
 ghost use Rattle.tj_words.specs.SeatViews.TreeReads.{IsLater, KnowsTask, MayLook, TreeShown};
+ghost use Rattle.tj_cells.specs.CallLogs.{
+  AreLoads,
+  Makes,
+  MakesNode,
+  MakesPromise,
+  MakesRefusedDraw,
+  MakesTask,
+  drawn_entries,
+  owner_entry,
+};
 ghost use Rattle.tj_cells.specs.MadeCells.{IsMade, MayGiveAway, MayMake};
 ghost use Rattle.tj_cells.specs.Inner.MakingSteps.{DrawsNamed, HasInHand, WritesNode, child_jump_of};
 
@@ -38,6 +49,12 @@ pub fn make<B: Body>(laid: &Laid<B>, seat: &mut WSeat<B>, t: CellId, kid: u32) -
     // nothing else was written.
     ensures full { OnErr result (FindsNone (program_of B.places B.awaits B.left B.asks B.then)
         seat.old.me.0 seat.new.me.0) }
+    // The call is these five steps: the draw, which found this cell, and the stores of PARENT, KID,
+    // PHASE and OWN.
+    ensures log_made { IfOk result (λ c. MakesPromise t.0 kid c.0 seat.old seat.new) }
+    // Where it is Full it is one step, a draw that found COUNT at the table's cells or above.
+    ensures log_full { OnErr result (MakesRefusedDraw laid.now.cells t.0 sorts.Promise seat.old
+        seat.new) }
 {
     let c = draw_named(laid, seat, t, kid, Sort::Promise)?;
     laid.put_phase(seat, c, Phase::Promise);
@@ -65,6 +82,12 @@ pub fn birth<B: Body>(laid: &Laid<B>, seat: &mut WSeat<B>, t: CellId, kid: u32) 
     // written.
     ensures full { OnErr result (FindsNone (program_of B.places B.awaits B.left B.asks B.then)
         seat.old.me.0 seat.new.me.0 × (seat.new.me.1 ≡ seat.old.me.1)) }
+    // The call is the draw, which found this cell, the stores of PARENT and KID, twelve loads of
+    // words that are written once, and the stores of DEPTH, JUMP and OWN.
+    ensures log_made { IfOk result (λ c. MakesTask t.0 kid c.0 seat.old seat.new) }
+    // Where it is Full it is one step, a draw that found COUNT at the table's cells or above.
+    ensures log_full { OnErr result (MakesRefusedDraw laid.now.cells t.0 sorts.Task seat.old
+        seat.new) }
 {
     let c = draw_named(laid, seat, t, kid, Sort::Task)?;
     put_node(laid, seat, t, c);
@@ -81,6 +104,8 @@ pub fn hand<B: Body>(laid: &Laid<B>, seat: &mut WSeat<B>, t: CellId, p: CellId, 
     ensures seat { IsSameSeat seat.old seat.new }
     // The promise is the child's.
     ensures view { seat.new.me.0 ≡ handed_promise t.0 p.0 child.0 seat.old.me.0 }
+    // The call is one step, the store of the child as the promise's owner.
+    ensures log { Makes (owner_entry p.0 (Some child.0) ∷ []) seat.old seat.new }
 {
     laid.put_owner(seat, p, Some(child));
 }
@@ -96,6 +121,8 @@ fn draw_named<B: Body>(laid: &Laid<B>, seat: &mut WSeat<B>, t: CellId, kid: u32,
     ensures slots { IfOk result (λ c. seat.new.me.1 ≡ new_slots c.0 sort seat.old.me.1) }
     ensures full { OnErr result (FindsNone (program_of B.places B.awaits B.left B.asks B.then)
         seat.old.me.0 seat.new.me.0 × (seat.new.me.1 ≡ seat.old.me.1)) }
+    ensures log_drawn { IfOk result (λ c. Makes (drawn_entries t.0 kid sort c.0) seat.old seat.new) }
+    ensures log_full { OnErr result (MakesRefusedDraw laid.now.cells t.0 sort seat.old seat.new) }
 {
     let Some(c) = laid.draw_one(seat, t, sort) else {
         return Err(Full);
@@ -112,6 +139,7 @@ fn put_node<B: Body>(laid: &Laid<B>, seat: &mut WSeat<B>, t: CellId, c: CellId)
     requires hand { HasInHand t.0 c.0 seat.old.me.0 }
     ensures seat { IsSameSeat seat.old seat.new }
     ensures node { WritesNode laid.now.cells c.0 seat.old.me.0 seat.new.me.0 }
+    ensures log { MakesNode c.0 seat.old seat.new }
 {
     let maker = laid.see_node(seat, t);
     let jump = child_jump(laid, seat, t, maker);
@@ -127,6 +155,7 @@ fn child_jump<B: Body>(laid: &Laid<B>, seat: &mut WSeat<B>, t: CellId, node: Nod
     ensures jump { InEachTree (TreeShown seat.new) (λ forks. result.0 ≡ child_jump_of t.0 forks) }
     ensures loads { seat.new.me.0.once_loads ≡ seat.old.me.0.once_loads + 8 }
     ensures later { IsLater laid.now.cells seat.old seat.new }
+    ensures log { (looks : List Entry) × AreLoads 8 looks × Makes looks seat.old seat.new }
 {
     let near = laid.see_node(seat, CellId(node.jump.0));
     let far = laid.see_node(seat, CellId(near.jump.0));

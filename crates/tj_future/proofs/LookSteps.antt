@@ -1,6 +1,7 @@
 -- The steps of a look in the log of its seat, one after the other.
 use Rattle.std.proofs.Common.{◌≡◌, ◌≢◌, ℕ, List, [], ◌∷◌, Some, refl, ap, ◌∙◌, subst, sym, inr}
 use Rattle.tj_log.specs.declared.entry.Entry.{Entry}
+use Rattle.tj_cells.specs.CallLogs.{Makes, Seat}
 use Rattle.tj_cells.specs.ValueLogs.{LoadsEntry}
 use Rattle.tj_cells.specs.declared.seen.Seen.{Seen}
 use Rattle.tj_cells.specs.declared.seen.Seen.TheVariants as seen
@@ -10,7 +11,7 @@ use Rattle.tj_words.specs.CallLaws.StepCalls as call
 use Rattle.tj_words.specs.CallLaws.StepLogs.{IsLogged}
 use Rattle.tj_words.specs.declared.offsets.Once.TheVariants as once
 use Rattle.tj_future.specs.Looks.{told_as}
-use Rattle.tj_future.specs.LookLogs.{Makes, MakesLook, Seat, live_load, loads_to, stop_load, tag_load}
+use Rattle.tj_future.specs.LookLogs.{MakesLook, live_load, loads_to, stop_load, tag_load}
 use Rattle.tj_future.specs.declared.watched.Watched.TheVariants as watched
 
 module _ {B : Type 0} where

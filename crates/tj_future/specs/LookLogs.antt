@@ -1,7 +1,7 @@
 -- What one look at a cell leaves in the log of its seat: which words it loaded, in which order, and what it found.
-use Rattle.std.specs.Prelude.{◌≡◌, ◌⊎◌, ℕ, ◌<◌, List, [], ◌∷◌, ◌++◌, Option, Some, None}
-use Rattle.tj_log.specs.Shown.{SeatShown}
+use Rattle.std.specs.Prelude.{◌⊎◌, ℕ, ◌<◌, List, [], ◌∷◌, Option, Some, None}
 use Rattle.tj_log.specs.declared.entry.Entry.{Entry}
+use Rattle.tj_cells.specs.CallLogs.{Makes, Seat}
 use Rattle.tj_cells.specs.SeenValues.{seen_in}
 use Rattle.tj_cells.specs.ValueLogs.{LoadsEntry}
 use Rattle.tj_cells.specs.declared.seen.Seen.{Seen}
@@ -10,8 +10,6 @@ use Rattle.tj_run.specs.Leaving.{stop_word}
 use Rattle.tj_words.specs.CallLaws.StepCalls as call
 use Rattle.tj_words.specs.CallLaws.StepLogs.{entry_of}
 use Rattle.tj_words.specs.declared.offsets.Once.TheVariants as once
-use Rattle.tj_words.specs.declared.record.Rec.{Rec}
-use Rattle.tj_words.specs.declared.view.View.{View}
 use Rattle.tj_future.specs.declared.watched.Watched.{Watched}
 use Rattle.tj_future.specs.declared.watched.Watched.TheVariants as watched
 
@@ -29,15 +27,7 @@ live_load n = entry_of call.sees_live 0 0 n
 abbrev pub loads_to : ℕ → ℕ → List Entry
 loads_to p n = live_load n ∷ stop_load 0 ∷ tag_load p ∷ []
 
--- a seat of the table, as a contract sees it
-abbrev pub Seat : Type 0 → Type 0
-Seat B = SeatShown (Option (Rec B)) (View B)
-
 module _ {B : Type 0} where
-  -- the seat has made these steps more, and no other
-  abbrev pub Makes : List Entry → Seat B → Seat B → Type 0
-  Makes es old new = (new.log ≡ es ++ old.log) × (new.took ≡ old.took)
-
   -- TAG and BITS were loaded as they stand for this: at once, or after LIVE was loaded as 0
   abbrev pub MakesFind : ℕ → Seen → Seat B → Seat B → Type 0
   MakesFind p s old new = LoadsEntry p s old new ⊎ ((at_rest : Seat B) × Makes (loads_to p 0) old at_rest
@@ -50,3 +40,10 @@ module _ {B : Type 0} where
   MakesLook p (Some watched.Broken) old new = MakesFind p seen.Broken old new
   MakesLook p (Some watched.Rested) old new = Makes (tag_load p ∷ loads_to p 0) old new
   MakesLook p (Some (watched.Stopped why)) old new = Makes (stop_load (stop_word why) ∷ tag_load p ∷ []) old new
+
+  -- looks were made one after the other, each of which answered nothing, and then one that was answered like this; and
+  -- no other step
+  pub data MakesLooks (p : ℕ) (answer : Watched) : Seat B → Seat B → Type 0 where
+    at_once : (old new : Seat B) → MakesLook p (Some answer) old new → MakesLooks p answer old new
+    again : (old between new : Seat B) → MakesLook p None old between → MakesLooks p answer between new
+        → MakesLooks p answer old new

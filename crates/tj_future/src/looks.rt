@@ -4,7 +4,7 @@ ghost use Rattle.tj_body.specs.Programs.{program_of};
 ghost use Rattle.tj_words.specs.SeatViews.SeatSteps.{IsCellOf, IsSameSeat, IsSeatOf};
 ghost use Rattle.tj_words.specs.SeatViews.Views.{IsIdle};
 ghost use Rattle.tj_run.specs.Leaving.{stop_word};
-ghost use Rattle.tj_future.specs.LookLogs.{MakesLook};
+ghost use Rattle.tj_future.specs.LookLogs.{MakesLook, MakesLooks};
 ghost use Rattle.tj_future.specs.Looks.{Answers, GoesOn, IsWatched, told_as};
 
 use crate::watched::Watched;
@@ -14,7 +14,7 @@ use tj_base::CellId;
 use tj_body::Body;
 use tj_cells::{Seen, value};
 use tj_run::Why;
-use tj_words::{Fill, Laid, WSeat, rested_runs};
+use tj_words::{Fill, Laid, Stop, WSeat, rested_runs};
 
 /// One look at cell `p`: it loads TAG, and where that is 0 then STOP, and where that is 0 then LIVE, and
 /// where that is 0 TAG again. It answers nothing where LIVE is above 0.
@@ -87,9 +87,9 @@ fn why_of(word: u64) -> Why
     requires known { word ≤ 2 }
     ensures { stop_word result ≡ word }
 {
-    match word {
-        1 => Why::Full,
-        _ => Why::Memory,
+    match Stop::of_word(word) {
+        Some(stop) => Why::of_stop(stop),
+        None => unreachable!(),
     }
 }
 
@@ -123,6 +123,9 @@ pub fn watch<B: Body, R: Wait>(
     // that it knew before.
     ensures answer { IsWatched (program_of B.places B.awaits B.left B.asks B.then) laid.now.cells
         p.0 result.0 seat.me.0 result.1.me.0 }
+    // The call is looks and no other step: each but the last one answered nothing, and their loads
+    // are those that `look_at` `log` says.
+    ensures log { MakesLooks p.0 result.0 seat result.1 }
 {
     let mut seat = seat;
     let mut pause = SHORTEST;

@@ -8,6 +8,7 @@ ghost use Rattle.tj_words.specs.declared.record.Rec.{Rec};
 ghost use Rattle.tj_words.specs.declared.view.View.{View};
 ghost use Rattle.tj_words.specs.SeatViews.SeatSteps.{IsCellOf, IsSameSeat, IsSeatOf};
 ghost use Rattle.tj_words.specs.SeatViews.Views.{IsIdle};
+ghost use Rattle.tj_future.specs.LookLogs.{MakesLook};
 ghost use Rattle.tj_future.specs.Looks.{Answers, GoesOn};
 ghost use Rattle.tj_future.specs.Polls.{IsGiven, MayPoll, StillWaits};
 
@@ -30,7 +31,7 @@ pub trait Polled: Body {
         requires cell { IsCellOf laid.now p.0 }
         requires idle { IsIdle seat.old.me.0 }
         requires slots { seat.old.me.1 ≡ [] }
-        // A look by the body's own `impl`: its clauses are those of `look_at` but for `log`.
+        // A look by the body's own `impl`: its clauses are those of `look_at`.
         ensures seat { IsSameSeat seat.old seat.new }
         ensures idle { IsIdle seat.new.me.0 }
         ensures slots { seat.new.me.1 ≡ [] }
@@ -39,7 +40,8 @@ pub trait Polled: Body {
             Self.asks Self.then) p.0 seat.old.me.0 seat.new.me.0 }
         ensures some { IfSome result (λ watched. Answers (program_of Self.places Self.awaits
             Self.left Self.asks Self.then) laid.now.cells p.0 watched seat.old.me.0
-            seat.new.me.0) };
+            seat.new.me.0) }
+        ensures log { MakesLook p.0 result seat.old seat.new };
 }
 
 impl<'s> Polled for TableBody<'s> {
@@ -123,15 +125,19 @@ impl<'a, B: Polled> Future for CellWait<'a, B> {
     fn poll(&mut self, cx: &mut Context<'_>) -> Poll<(Watched, WSeat<B>)>
         requires { MayPoll self.old.laid.now self.old.seat self.old.p.0 }
         // A ready poll gives the seat back: one of the same table, which may be merged, with its
-        // lot; and the answer of the last look, as of `watch`.
+        // lot; and the answer of the last look, as of `watch`. The polls since the wait had this seat
+        // made looks, and no other step.
         ensures value { IfReady result (λ given. IsGiven (program_of B.places B.awaits B.left B.asks
             B.then) self.old.laid.now self.old.seat self.old.p.0 given.0 given.1) }
         // It is ready with what the look of this poll answered.
         ensures looked { IfReady result (λ given. IsSomeAnd self.old.seat (λ seat. Answers
             (program_of B.places B.awaits B.left B.asks B.then) self.old.laid.now.cells self.old.p.0
             given.0 seat.me.0 given.1.me.0)) }
+        // This poll is that look, by the loads that `look_at` `log` says, and no other step.
+        ensures log { IfReady result (λ given. IsSomeAnd self.old.seat (λ seat. MakesLook self.old.p.0
+            (Some given.0) seat given.1)) }
         // It is pending only where the look of this poll answered nothing; the wait has its seat
-        // again, with its lot.
+        // again, with its lot. The poll is that look and no other step.
         ensures pending { OnPending result (StillWaits (program_of B.places B.awaits B.left B.asks
             B.then) self.old.p.0 self.old.seat self.new.seat) }
         // It has yielded then, through its context.

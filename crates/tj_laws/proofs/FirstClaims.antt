@@ -1,6 +1,5 @@
 -- The first step of a run: the seat of a new table claims the root.
-use Rattle.std.proofs.Common.{◌≡◌, ◌<◌, ◌∙◌, ℕ, Bool, [], Option, Some, refl, sym, ap, inl}
-use Rattle.std.proofs.Common.{eqb, length, set, arith}
+use Rattle.std.proofs.Common.{◌≡◌, ◌<◌, ◌∙◌, ℕ, Bool, [], Option, Some, refl, sym, ap, inl, eqb, length, set, arith}
 use mathlib.Core.Option.{none}
 use Rattle.atomic_table.specs.Table.{Act, State, Step, Valid, carried_after, opening, step, stepped}
 use Rattle.tj_body.specs.Asks.{Await}
@@ -40,13 +39,13 @@ use Rattle.tj_laws.specs.NewTables.{RootsAreClaimed}
 
 module _ {B : Type 0} (program : Bool → B → Program B) (key : Key B) (some_cells : 0 < key.cells)
     (keeps_facts : EventKeepsFacts) where
-  abbrev seat : View B
+  abbrev pub seat : View B
   seat = first_view key.cells key.root.value key.strict
 
   abbrev me : SeatMe B
   me = (seat, [])
 
-  abbrev first : State (Option (Rec B)) (View B)
+  abbrev pub first : State (Option (Rec B)) (View B)
   first = opening (first_words key.cells) (first_slots key.cells key.root.value) seat
 
   -- PHASE of the root, its place, and the operands of the claim
@@ -72,13 +71,13 @@ module _ {B : Type 0} (program : Bool → B → Program B) (key : Key B) (some_c
     ready : phase_in found ≡ phase.Ready
     ready = ap (λ (w : WordsSay). w.phase 0) (first_words_say key.cells some_cells)
 
-    found_is : found ≡ was
+    pub found_is : found ≡ was
     found_is = sym (rule.codes.each 0 some_cells).phase.code ∙ ap phase_word ready
 
-    left_is : left ≡ to
+    pub left_is : left ≡ to
     left_is = exchange_hit found was to found_is
 
-    allowed : (w : View B) × (a : Act (Option (Rec B))) × Valid first.homes [] a
+    pub allowed : (w : View B) × (a : Act (Option (Rec B))) × Valid first.homes [] a
         × Rule program key (stepped first place left 0 [] w a)
         × phase_swap program 0 key.cells st me found (w, carried_after [] a) × IsPlain a
     allowed = swap_allowed program key keeps_facts key.cells 0 me key.cells 0 0 place was to phase.Ready phase.Running
@@ -86,7 +85,7 @@ module _ {B : Type 0} (program : Bool → B → Program B) (key : Key B) (some_c
         (inl (refl, refl, (record { root = key.root.value; cells = key.cells; strict = key.strict }, refl)))
         first rule rule.all_slots refl (let f = found_is in omega (arith, f))
 
-    abbrev after : SeatMe B
+    abbrev pub after : SeatMe B
     after = (allowed.0, carried_after [] allowed.1)
 
     told : told_by program key.cells (call.swaps_phase 0) left st me found after
@@ -96,10 +95,10 @@ module _ {B : Type 0} (program : Bool → B → Program B) (key : Key B) (some_c
       (inl (refl, refl, (record { root = key.root.value; cells = key.cells; strict = key.strict }, refl)), allowed.4),
     )
 
-    abbrev claimed : State (Option (Rec B)) (View B)
+    abbrev pub claimed : State (Option (Rec B)) (View B)
     claimed = stepped first place left 0 [] allowed.0 allowed.1
 
-    claim : IsAskedCall program key first claimed
+    pub claim : IsAskedCall program key first claimed
     claim =
         let o = acts_so program key st left found me after (call.swaps_phase 0) told in
         let same = same_act first.homes [] allowed.1 o.0 allowed.5 o.2 allowed.2 o.3 in record {

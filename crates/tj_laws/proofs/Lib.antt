@@ -16,3 +16,16 @@ pub mod RunEnds
 pub mod SentItems
 pub mod FirstClaims
 pub mod MeantNames
+pub mod SendSteps
+pub mod SentOnce
+pub mod ChannelRuns
+pub mod JoinsAgainst
+pub mod FirstAlarms
+pub mod SlotsAway
+pub mod FirstRests
+pub mod FirstTags
+pub mod NamesAtRest
+pub mod LoneHolders
+pub mod LoggedPhases
+pub mod FirstPromises
+pub mod FirstWakes

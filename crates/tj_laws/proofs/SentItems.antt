@@ -1,9 +1,8 @@
 -- Each value in the list of a channel was sent at some step of some task: it goes back, from the end in which it
 -- stands, over the tasks that handed the end on.
 use Rattle.std.proofs.Common.{◌≡◌, ◌⊎◌, ◌<◌, ◌*◌, ◌&&◌, ℕ, zero, suc, Bool, true, false, cond, nat_eq, nat_lt, List}
-use Rattle.std.proofs.Common.{[], ◌∷◌, ◌++◌, length, map, slice_get, Option, Some, None, ℤ, refl, sym, ap, ◌∙◌}
-use Rattle.std.proofs.Common.{subst, inl}
-use Rattle.std.proofs.Common.{inr, ⊎_elim, ltb-true}
+use Rattle.std.proofs.Common.{[], ◌∷◌, ◌++◌, length, map, slice_get, Option, Some, None, ℤ, refl, sym, ap, ◌∙◌, subst}
+use Rattle.std.proofs.Common.{inl, inr, ⊎_elim, ltb-true}
 use Rattle.std.specs.List.{flat_map}
 use Rattle.tj_base.specs.declared.cause.Cause.TheVariants as cause
 use Rattle.tj_body.specs.Names.{same}
@@ -13,11 +12,10 @@ use Rattle.tj_chan.specs.Channels.{Channel, ChannelState, ChatPoint, ChatRules, 
 use Rattle.tj_chan.specs.Channels.{SendingEnd, after_chat_ask, after_chat_stage, after_item, after_receive}
 use Rattle.tj_chan.specs.Channels.{after_send, after_send_by, after_spawn, answered, are_among, channels_at}
 use Rattle.tj_chan.specs.Channels.{chat_history, end_of, ended, failed, given_both, is_same, next_channel, next_chat}
-use Rattle.tj_chan.specs.Channels.{new_end, one_more}
-use Rattle.tj_chan.specs.Channels.{part_with, parted, parting_of, receives, times, with_sent, without_end}
+use Rattle.tj_chan.specs.Channels.{new_end, one_more, part_with, parted, parting_of, receives, times, with_sent}
+use Rattle.tj_chan.specs.Channels.{without_end}
 use Rattle.tj_chan.specs.ChannelRounds.{ChatProgram, chat_family, chat_tasks, has_ended, later_of, leaves, left_by}
-use Rattle.tj_chan.specs.ChannelRounds.{left_of}
-use Rattle.tj_chan.specs.ChannelRounds.{lists_at, root_chat, state_in}
+use Rattle.tj_chan.specs.ChannelRounds.{left_of, lists_at, root_chat, state_in}
 use Rattle.tj_chan.specs.declared.chat.ChatAnswer.{ChatAnswer}
 use Rattle.tj_chan.specs.declared.chat.ChatAnswer.TheVariants as answer
 use Rattle.tj_chan.specs.declared.chat.ChatAsk.{ChatAsk}
@@ -26,11 +24,11 @@ use Rattle.tj_chan.proofs.Lists.Apart.{end_there, is_same_self, left_there, same
 use Rattle.tj_laws.specs.ChannelSends.{ReceivesAreSends, Sends, chat_point}
 
 -- channels that are told to be the same are told alike from all others
-alike : (c d x : Channel) → is_same c d ≡ true → is_same c x ≡ is_same d x
+pub alike : (c d x : Channel) → is_same c d ≡ true → is_same c x ≡ is_same d x
 alike c d x h = let p = same_parts c d h in λ j. same (p.0 j) x.opener && nat_eq (p.1 j) x.made_before
 
 -- the order doesn't matter
-turned : (c d : Channel) → is_same c d ≡ true → is_same d c ≡ true
+pub turned : (c d : Channel) → is_same c d ≡ true → is_same d c ≡ true
 turned c d h = sym (alike c d c h) ∙ is_same_self c
 
 -- both lists of a parting have ends that were there

@@ -43,7 +43,7 @@ word_of (call.shuts p) = table_word.Head p
 word_of (call.puts_next t) = table_word.Next t
 word_of (call.sees_next t) = table_word.Next t
 
-placed : (a : StepCall) → place_of a ≡ index (word_of a)
+pub placed : (a : StepCall) → place_of a ≡ index (word_of a)
 placed (call.draws t o) = refl
 placed call.counts = refl
 placed (call.counts_by t) = refl

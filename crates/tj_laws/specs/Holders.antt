@@ -1,15 +1,20 @@
 -- Who holds a task, and what is so of it from a claim to the step by which it leaves.
 use Rattle.std.specs.Prelude.{◌≡◌, ◌⊎◌, ℕ, ◌+◌, Bool, true, false, cond, not, ◌&&◌, List, [], ◌∷◌, Some}
+use mathlib.Core.Option.{some}
+use lib.ListN.{get_elem?}
 use Rattle.tj_body.specs.Programs.{Program}
 use Rattle.tj_words.specs.declared.phase.Phase.{Phase}
 use Rattle.tj_words.specs.declared.phase.Phase.TheVariants as phase
+use Rattle.tj_words.specs.declared.phase.Walk.TheVariants as walk
 use Rattle.tj_words.specs.declared.record.Rec.{Rec}
 use Rattle.tj_words.specs.declared.table.Key.{Key}
 use Rattle.tj_words.specs.declared.view.Custody.{Custody}
+use Rattle.tj_words.specs.declared.view.View.{View}
 use Rattle.tj_words.specs.CallLaws.CallRuns.{AreAskedMoments, IsAskedStep}
 use Rattle.tj_words.specs.CallLaws.RestedRuns.{Ruled, last_moment}
 use Rattle.tj_words.specs.LawParts.Contents.{Contents, home_of}
 use Rattle.tj_words.specs.LawParts.Holding.{held_in}
+use Rattle.tj_words.specs.LawParts.Lots.{all_lots}
 use Rattle.tj_words.specs.Words.Lists.{OfSeat}
 use Rattle.tj_laws.specs.Moments.{Always, contents_at}
 
@@ -120,3 +125,20 @@ ReadiedOncePerClaim B = (program : Bool → B → Program B) (key : Key B) (t : 
     → phase_then program key t (last_moment program key u later) ≡ phase.Ready
     → claims program key t u later ≡ 0
     → readied program key t u later ≡ 1
+
+-- a task in this phase runs, or walks
+abbrev pub IsUnderWay : Phase → Type 0
+IsUnderWay phase.Unborn = ⊥
+IsUnderWay phase.Ready = ⊥
+IsUnderWay phase.Running = Unit {0}
+IsUnderWay phase.Ended = ⊥
+IsUnderWay phase.Promise = ⊥
+IsUnderWay (phase.Waiting c way walk.Walking) = Unit {0}
+IsUnderWay (phase.Waiting c way walk.Parked) = ⊥
+IsUnderWay (phase.Waiting c way walk.Alarmed) = ⊥
+
+-- At every moment a seat with all lots holds each task that runs or walks: so with one seat alone nobody else does.
+abbrev pub LoneSeatsHold : Type 0 → Type 0
+LoneSeatsHold B = Always B (λ program key u. (id t : ℕ) (v : View B) → get_elem? u.now.views id ≡ some v
+    → v.lot ≡ all_lots → IsUnderWay ((contents_at program key u).words.phase t)
+    → (k : Custody B) × (held_in v.tasks t ≡ Some k))

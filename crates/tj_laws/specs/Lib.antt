@@ -9,3 +9,7 @@ pub mod NewTables
 pub mod TableEvents
 pub mod OwnMoments
 pub mod ChannelSends
+pub mod StrictJoins
+pub mod SlotsInHand
+pub mod ClosedNames
+pub mod LoggedPhases

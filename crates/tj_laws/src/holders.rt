@@ -1,6 +1,6 @@
 //! The laws of who holds a task, from a claim to the step by which it leaves.
 ghost use Rattle.tj_laws.specs.Holders.{OneSeatHolds, HoldersLast, HeldThroughout};
-ghost use Rattle.tj_laws.specs.Holders.{LaidThroughout, ReadiedOncePerClaim};
+ghost use Rattle.tj_laws.specs.Holders.{LaidThroughout, LoneSeatsHold, ReadiedOncePerClaim};
 
 use tj_words::{call_runs, lasting_words};
 
@@ -21,6 +21,8 @@ pub fn one_holder<B>()
     // Between a change of PHASE from Ready to Running and the next such change of that task lies
     // one change to Ready, and no more.
     ensures claims { ReadiedOncePerClaim B }
+    // A seat with all lots holds each task whose PHASE is Running or Walking.
+    ensures lone { LoneSeatsHold B }
 {
     call_runs::<B>();
     lasting_words::<B>();

@@ -5,8 +5,8 @@ ghost use Rattle.tj_laws.specs.RestedTables.{LiveIsSomebodys};
 use tj_words::lasting_words;
 
 /// Once LIVE is 0 it stays 0, no cell is drawn any more, and TAG, OWN, PHASE and the records at home
-/// stay; in a run from a new table no cell is in hand then. STOP never returns to 0. Where LIVE isn't 0, a task is ready, or a seat has a live task or a
-/// token: no claim on progress follows.
+/// stay; in a run from a new table no cell is in hand then. STOP never returns to 0. Where LIVE isn't
+/// 0, a task is ready, or a seat has a live task or a token: no claim on progress follows.
 pub fn rested_tables<B>()
     // Once LIVE is 0 it stays 0, no cell is drawn any more, and TAG and the records at home stay,
     // and so do OWN and PHASE of each cell that isn't in hand.

@@ -6,7 +6,6 @@ use mathlib.Core.Option.{some, some-injective, some-ne-none}
 use mathlib.Core.Logic.{dite}
 use native.Mathlib.Decide.{ℕ_discrete}
 use lib.ListN.{get_elem?}
-use Rattle.tj_log.specs.declared.entry.Entry.{Entry}
 use Rattle.tj_log.specs.declared.entry.Logged.{Logged}
 use Rattle.tj_log.specs.Runs.{entries_at}
 
@@ -15,7 +14,7 @@ pub pick : {A : Type 0} (j i : ℕ) (x y z : A) → (j ≡ i → z ≡ x) → (j
 pick j i x y z hit miss = dite (ℕ_discrete j i) (λ e. hit e ∙ sym (cond-true (eqb j i) x y (eq-eqb j i e)))
     (λ ne. miss ne ∙ sym (cond-false (eqb j i) x y (ne_eqb j i ne)))
 
-module _ {V : Type 0} (f : Logged V → List Entry) where
+module _ {V A : Type 0} (f : Logged V → List A) where
   pub there : (vs : List (Logged V)) (i : ℕ) (v : Logged V) → get_elem? vs i ≡ some v → entries_at f vs i ≡ f v
   there [] i v e = absurd (some-ne-none v (sym e))
   there (x ∷ xs) zero v e = ap f (some-injective x v e)

@@ -15,7 +15,7 @@ use Rattle.atomic_table.proofs.Lists.{at_map, at_set, at_snoc, set_else}
 use Rattle.tj_log.specs.declared.entry.Did.{Did}
 use Rattle.tj_log.specs.declared.entry.Entry.{Entry}
 use Rattle.tj_log.specs.declared.entry.Logged.{Logged}
-use Rattle.tj_log.specs.Logs.{own_view, own_state, own_me, gone, opened, cut, glued, logging}
+use Rattle.tj_log.specs.Logs.{numbers, own_view, own_state, own_me, gone, opened, cut, glued, logging}
 use Rattle.tj_log.specs.Runs.{Terms, begins, steps, splits, joins, left, tell, log_of, took_of, Kept, log_at, took_at}
 use Rattle.tj_log.specs.Runs.{entries_at}
 use Rattle.tj_log.proofs.Entries.{at_bound, pick, there, here, else, same, snoc}
@@ -29,14 +29,17 @@ module _ {S V : Type 0} (terms : Terms S V) where
       → ((x : State S V) → terms.holds x → get_elem? x.views id ≡ some m.0.own → (w : Me S V)
       → then (step slots i a b none) (own_me m) (tell did a (get_or x.words i 0)) w
       → terms.tells did (step slots i a b none) (own_me m) (get_or x.words i 0) w)
+      → numbers m.1 ≡ m.0.slots
       → table.Allows (Kept terms) slots id m i (left did a b)
       (λ n. logging did then (step slots i a b none) m (tell did a n))
-  steps_allowed did a b slots id i m then may tells s kept deep at small =
+  steps_allowed did a b slots id i m then may tells has s kept deep at small =
       let own = at_map own_view s.views id m.0 at in
       let r = may (own_state s) kept.run.holds deep own small in
       let n = get_or s.words i 0 in
       let e : Entry = record { did = did; word = i; first = a; second = b; found = tell did a n } in
-      let w : Logged V = record { own = r.0; log = e ∷ m.0.log; took = m.0.took; lone = m.0.lone } in
+      let after = numbers (carried_after m.1 r.1) in
+      let w : Logged V =
+      record { own = r.0; log = e ∷ m.0.log; took = m.0.took; lone = m.0.lone; slots = after } in
       let now : own_state (stepped s i (left did a b n) id m.1 w r.1)
       ≡ stepped (own_state s) i (left did a b n) id m.1 r.0 r.1
       = ap (λ (vs : List V). record {
@@ -49,19 +52,18 @@ module _ {S V : Type 0} (terms : Terms S V) where
         r.1,
         r.2,
         record {
-          past = steps kept.past (own_state s) id e;
+          past = steps kept.past (own_state s) id e m.1 r.1;
           run = record {
             holds = subst terms.holds (sym now) r.3;
             came = (
               kept.run.holds,
               record {
-                me = own_me m;
-                me_after = (r.0, carried_after m.1 r.1);
-                act = r.1;
+                view = m.0.own;
+                view_after = r.0;
                 at = own;
+                slots = has ∙ (sym (there (λ v. v.slots) s.views id m.0 at) ∙ kept.left_slots id);
                 may = r.2;
                 plain = r.5;
-                slots = refl;
                 found = refl;
                 told = subst (λ (d : ℕ). terms.tells did (step d i a b none) (own_me m) n
                     (r.0, carried_after m.1 r.1)) (sym deep) (tells (own_state s) kept.run.holds own _ r.4);
@@ -81,11 +83,15 @@ module _ {S V : Type 0} (terms : Terms S V) where
               ∙ (kept.logs id ∙ ap (λ (k : ℕ). log_of k kept.past) (sym is)))))
               (λ ne. else (λ v. v.log) s.views id j w ne ∙ kept.logs j);
           tooks = λ j. same (λ v. v.took) s.views id j m.0 w at refl ∙ kept.tooks j;
+          left_slots = λ j. pick j id _ _ _
+              (λ is. ap (λ (k : ℕ). entries_at (λ v. v.slots) (set s.views id w) k) is
+              ∙ here (λ v. v.slots) s.views id m.0 w at)
+              (λ ne. else (λ v. v.slots) s.views id j w ne ∙ kept.left_slots j);
           lone = λ j v is lone. length-set s.views id w ∙ ⊎_elim
               (λ (t : (j ≡ id) × (w ≡ v)). kept.lone id m.0 at (ap (λ (x : Logged V). x.lone) t.1 ∙ lone))
               (λ (t : (j ≢ id) × (get_elem? s.views j ≡ some v)). kept.lone j v t.1 lone) (at_set s.views id j w v is);
         },
-        (r.4, refl, refl, refl),
+        (r.4, refl, refl, refl, refl),
       )
 
   -- a seat is split
@@ -114,6 +120,8 @@ module _ {S V : Type 0} (terms : Terms S V) where
             kept.logs j);
         tooks = λ j. snoc (λ v. v.took) (set s.views id l) j r refl ∙ (same (λ v. v.took) s.views id j v l at refl
             ∙ kept.tooks j);
+        left_slots = λ j. snoc (λ v. v.slots) (set s.views id l) j r refl ∙ (same (λ v. v.slots) s.views id j v l at
+            refl ∙ kept.left_slots j);
         lone = λ j u is lone. absurd (⊎_elim
             (λ (q : get_elem? (set s.views id l) j ≡ some u). ⊎_elim
             (λ (t : (j ≡ id) × (l ≡ u)). true≢false (sym lone ∙ ap (λ (x : Logged V). x.lone) (sym t.1)))
@@ -127,8 +135,8 @@ module _ {S V : Type 0} (terms : Terms S V) where
   -- a seat takes another one in
   pub joins_allowed : (id other : ℕ) (v w : Logged V)
       → Joins terms.holds id v.own other w.own (terms.both v.own w.own) terms.spent → terms.may_join v.own w.own
-      → Joins (Kept terms) id v other w (glued terms.both v w) (gone terms.spent)
-  joins_allowed id other v w may asked s kept at apart other_at =
+      → w.slots ≡ [] → Joins (Kept terms) id v other w (glued terms.both v w) (gone terms.spent)
+  joins_allowed id other v w may asked empty s kept at apart other_at =
       let own = at_map own_view s.views id v at in
       let b = glued terms.both v w in
       let g = gone terms.spent in
@@ -152,6 +160,7 @@ module _ {S V : Type 0} (terms : Terms S V) where
               apart = apart;
               other_at = at_map own_view s.views other
                   w was;
+              none = sym (kept.left_slots other) ∙ (there (λ v. v.slots) s.views other w was ∙ empty);
               may = asked;
               after = now;
             },
@@ -169,12 +178,18 @@ module _ {S V : Type 0} (terms : Terms S V) where
             (λ is. ap (λ (k : ℕ). took_at (set vs other g) k) is ∙ here (λ v. v.took) vs other w g other_at)
             (λ ne. else (λ v. v.took) vs other j g ne ∙ pick j id _ _ _
             (λ is. ap (λ (k : ℕ). took_at vs k) is ∙ (here (λ v. v.took) s.views id v b at
-            ∙ (ap (λ (l : List Entry). l ++ w.log ++ w.took) (sym (there (λ v. v.took) s.views id v at) ∙ kept.tooks id)
-            ∙ (ap (λ (l : List Entry). took_of id kept.past ++ l ++ w.took) (sym (there (λ v. v.log) s.views other
+            ∙ (ap (λ (l : List (List Entry)). l ++ w.log ∷ w.took)
+            (sym (there (λ v. v.took) s.views id v at) ∙ kept.tooks id)
+            ∙ (ap (λ (l : List Entry). took_of id kept.past ++ l ∷ w.took) (sym (there (λ v. v.log) s.views other
             w was) ∙ kept.logs other)
-            ∙ ap (λ (l : List Entry). took_of id kept.past ++ log_of other kept.past ++ l) (sym (there
+            ∙ ap (λ (l : List (List Entry)). took_of id kept.past ++ log_of other kept.past ∷ l) (sym (there
             (λ v. v.took) s.views other w was) ∙ kept.tooks other)))))
             (λ no. else (λ v. v.took) s.views id j b no ∙ kept.tooks j));
+        left_slots = λ j. pick j other _ _ _
+            (λ is. ap (λ (k : ℕ). entries_at (λ v. v.slots) (set vs other g) k) is
+            ∙ here (λ v. v.slots) vs other w g other_at)
+            (λ ne. else (λ v. v.slots) vs other j g ne
+            ∙ (same (λ v. v.slots) s.views id j v b at refl ∙ kept.left_slots j));
         lone = λ j u is lone. absurd (⊎_elim
             (λ (t : (j ≡ other) × (g ≡ u)). true≢false (sym lone ∙ ap (λ (x : Logged V). x.lone) (sym t.1)))
             (λ (t : (j ≢ other) × (get_elem? vs j ≡ some u)). ⊎_elim
@@ -185,7 +200,7 @@ module _ {S V : Type 0} (terms : Terms S V) where
             apart (omega arith)) (at_set s.views id j b u t.1)) (at_set vs other j g u is));
       }
 
-  none_at : (f : Logged V → List Entry) (v : Logged V) (j : ℕ) → f v ≡ [] → entries_at f (v ∷ []) j ≡ []
+  none_at : {A : Type 0} (f : Logged V → List A) (v : Logged V) (j : ℕ) → f v ≡ [] → entries_at f (v ∷ []) j ≡ []
   none_at f v zero e = e
   none_at f v (suc j) e = refl
 
@@ -197,6 +212,7 @@ module _ {S V : Type 0} (terms : Terms S V) where
     run = record { holds = holds; came = tt; words = ws; slots = xs; opens = opens; start = refl };
     logs = λ j. none_at (λ v. v.log) (opened terms.first) j refl;
     tooks = λ j. none_at (λ v. v.took) (opened terms.first) j refl;
+    left_slots = λ j. none_at (λ v. v.slots) (opened terms.first) j refl;
     lone = λ j v is lone. refl;
   }
 
@@ -228,6 +244,11 @@ module _ {S V : Type 0} {terms : Terms S V} where
     f.3,
     f.4,
   )
+
+-- a seat that has no slot was left with none
+pub none_left : {S : Type 0} (slots : List (ℕ × S)) (left_slots : List ℕ) → numbers slots ≡ left_slots → slots ≡ []
+    → left_slots ≡ []
+none_left {S = S} slots left_slots e n = sym e ∙ ap (λ (xs : List (ℕ × S)). numbers xs) n
 
 -- what is asked of what callers see is so of what is within
 pub join_asked : {S V K : Type 0} (holds : K → State S V → Type 0) (both : V → V → V) (spent : V)

@@ -1,3 +1,5 @@
 pub mod Entries
 pub mod Keeps
 pub mod Unmoved
+pub mod PutSlots
+pub mod OwnSteps

@@ -4,54 +4,34 @@ use Rattle.std.proofs.Common.{ap, ◌∙◌}
 use Rattle.std.proofs.lemmas.Bool.{cond-true, cond-false}
 use mathlib.Core.Option.{some, some-injective, some-ne-none}
 use lib.ListN.{get_elem?}
-use mathlib.Core.Logic.{dite}
-use native.Mathlib.Decide.{ℕ_discrete}
 use Rattle.atomic_table.specs.Table.{State}
-use Rattle.tj_log.specs.declared.entry.Entry.{Entry}
 use Rattle.tj_log.specs.declared.entry.Logged.{Logged}
 use Rattle.tj_log.specs.Runs.{Terms, Past, begins, steps, splits, joins, log_of, took_of, first_of, Came, Kept}
 use Rattle.tj_log.specs.Runs.{entries_at}
 use Rattle.tj_log.specs.Laws.{FreshIsFirst, HasOpened, NothingIsLogged}
 
-some_is_none : (e : Entry) (l : List Entry) → e ∷ l ≡ [] → ⊥
-some_is_none e l p = let q : suc (length l) ≡ 0 = ap (λ (z : List Entry). length z) p in omega arith
+some_is_none : {A : Type 0} (e : A) (l : List A) → e ∷ l ≡ [] → ⊥
+some_is_none {A = A} e l p = let q : suc (length l) ≡ 0 = ap (λ (z : List A). length z) p in omega arith
 
-first_is_none : (l m : List Entry) → l ++ m ≡ [] → l ≡ []
-first_is_none [] m e = refl
-first_is_none (x ∷ xs) m e = absurd (some_is_none x (xs ++ m) e)
-
-second_is_none : (l m : List Entry) → l ++ m ≡ [] → m ≡ []
-second_is_none [] m e = e
-second_is_none (x ∷ xs) m e = absurd (some_is_none x (xs ++ m) e)
+pub more_is_none : {A : Type 0} (l : List A) (e : A) (m : List A) → l ++ e ∷ m ≡ [] → ⊥
+more_is_none [] e m p = some_is_none e m p
+more_is_none (x ∷ xs) e m p = some_is_none x (xs ++ e ∷ m) p
 
 module _ {S V : Type 0} (terms : Terms S V) where
   still : (now : State S V) (past : Past S V) → Came terms now past → ((j : ℕ) → log_of j past ≡ [])
       → ((j : ℕ) → took_of j past ≡ [])
       → (now.words ≡ (first_of now past).words) × (now.homes ≡ (first_of now past).homes)
   still now begins c l t = (refl, refl)
-  still now (steps past s id e) c l t =
+  still now (steps past s id e slots act) c l t =
       absurd (some_is_none e (log_of id past) (sym (cond-true (eqb id id) _ _ (eq-eqb id id refl)) ∙ l id))
   still now (splits past s id) c l t = let r = still s past c.2 l t in (
     ap (λ x. x.words) c.1.after ∙ r.0,
     ap
         (λ x. x.homes) c.1.after ∙ r.1,
   )
-  still now (joins past s a b) c l t =
-      let here : took_of a past ++ log_of b past ++ took_of b past ≡ []
-      = sym (cond-true (eqb a a) _ (took_of a past) (eq-eqb a a refl))
-      ∙ (sym (cond-false (eqb a b) [] _ (ne_eqb a b (λ e. c.1.apart (sym e)))) ∙ t a) in
-      let both = first_is_none (took_of a past ++ log_of b past) (took_of b past) here in
-      let r = still s past c.2
-      (λ j. dite (ℕ_discrete j b) (λ e. ap (λ k. log_of k past) e ∙ second_is_none (took_of a past) (log_of b past)
-      both)
-      (λ ne. sym (cond-false (eqb j b) [] _ (ne_eqb j b ne)) ∙ l j))
-      (λ j. dite (ℕ_discrete j b) (λ e. ap (λ k. took_of k past) e ∙ second_is_none (took_of a past ++ log_of b
-      past) (took_of b past) here)
-      (λ ne. dite (ℕ_discrete j a) (λ e. ap (λ k. took_of k past) e ∙ first_is_none (took_of a past) (log_of b
-      past) both)
-      (λ no. sym (cond-false (eqb j a) _ (took_of j past) (ne_eqb j a no)) ∙ (sym (cond-false (eqb j b) [] _
-      (ne_eqb j b ne)) ∙ t j)))) in
-      (ap (λ x. x.words) c.1.after ∙ r.0, ap (λ x. x.homes) c.1.after ∙ r.1)
+  still now (joins past s a b) c l t = absurd (more_is_none (took_of a past) (log_of b past) (took_of b past)
+      (sym (cond-true (eqb a a) _ (took_of a past) (eq-eqb a a refl))
+      ∙ (sym (cond-false (eqb a b) [] _ (ne_eqb a b (λ e. c.1.apart (sym e)))) ∙ t a)))
 
   pub unmoved : (s : State S (Logged V)) → Kept terms s → NothingIsLogged s → HasOpened terms s
   unmoved s k n =
@@ -64,7 +44,7 @@ module _ {S V : Type 0} (terms : Terms S V) where
       )
 
   -- the log of the only seat is all there is
-  one_alone : (f : Logged V → List Entry) (vs : List (Logged V)) (id : ℕ) (v : Logged V) → length vs ≡ 1
+  one_alone : {A : Type 0} (f : Logged V → List A) (vs : List (Logged V)) (id : ℕ) (v : Logged V) → length vs ≡ 1
       → get_elem? vs id ≡ some v → f v ≡ [] → (j : ℕ) → entries_at f vs j ≡ []
   one_alone f [] id v one at e j = refl
   one_alone f (x ∷ []) zero v one at e zero = ap f (some-injective x v at) ∙ e
@@ -77,11 +57,11 @@ module _ {S V : Type 0} (terms : Terms S V) where
     own = seat.me.0;
     log = seat.log;
     took = seat.took;
-    lone
-        = seat.lone;
+    lone = seat.lone;
+    slots = at.0;
   } in
-      let one = k.lone seat.id v at f.2 in
+      let one = k.lone seat.id v at.1 f.2 in
       unmoved s k (
-        one_alone (λ x. x.log) s.views seat.id v one at f.0,
-        one_alone (λ x. x.took) s.views seat.id v one at f.1,
+        one_alone (λ x. x.log) s.views seat.id v one at.1 f.0,
+        one_alone (λ x. x.took) s.views seat.id v one at.1 f.1,
       )

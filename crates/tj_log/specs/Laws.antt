@@ -1,11 +1,13 @@
 -- What the rule of a table with logs says of it.
-use Rattle.std.specs.Prelude.{◌≡◌, ℕ, true, List, [], map}
+use Rattle.std.specs.Prelude.{◌≡◌, ◌≢◌, ◌⊎◌, ℕ, true, List, [], ◌∷◌, ◌++◌, map}
 use lib.ListN.{get_elem?}
 use Rattle.tj_log.specs.Shown.{SeatShown}
 use mathlib.Core.Option.{some}
-use Rattle.atomic_table.specs.Table.{State}
+use Rattle.atomic_table.specs.Table.{State, Act, keeps, takes, gives, chain}
 use Rattle.tj_log.specs.declared.entry.Logged.{Logged}
-use Rattle.tj_log.specs.Runs.{Terms, Kept, log_at, took_at}
+use Rattle.tj_log.specs.declared.entry.Entry.{Entry}
+use Rattle.tj_log.specs.Runs.{Terms, Past, begins, steps, splits, joins, IsRun, Kept, log_at, log_of, took_at}
+use Rattle.tj_log.specs.Runs.{took_of}
 
 module _ {S V : Type 0} where
   -- no seat's log has a step
@@ -14,12 +16,13 @@ module _ {S V : Type 0} where
 
   -- this seat is one of the table's, with this view
   abbrev pub HasView : State S (Logged V) → SeatShown S V → Type 0
-  HasView s seat = get_elem? s.views seat.id ≡ some (record {
+  HasView s seat = (left_slots : List ℕ) × (get_elem? s.views seat.id ≡ some (record {
     own = seat.me.0;
     log = seat.log;
     took = seat.took;
     lone = seat.lone;
-  })
+    slots = left_slots;
+  }))
 
   -- a seat that has made no step, was never split, and has taken in none
   abbrev pub IsFresh : SeatShown S V → Type 0
@@ -33,3 +36,73 @@ module _ {S V : Type 0} where
 abbrev pub FreshIsFirst : {S V : Type 0} → Terms S V → Type 0
 FreshIsFirst {S} {V} terms = (s : State S (Logged V)) (seat : SeatShown S V) → Kept terms s → HasView s seat
     → IsFresh seat → HasOpened terms s
+
+module _ {S : Type 0} where
+  -- a step of a seat with these slots gives the slot k back, with y in it
+  abbrev pub Gives : ℕ → S → List (ℕ × S) → Act S → Type 0
+  Gives k y slots keeps = ⊥
+  Gives k y slots (takes j x) = ⊥
+  Gives k y [] gives = ⊥
+  Gives k y (x ∷ xs) gives = x ≡ (k, y)
+  Gives k y slots (chain a b) = ⊥
+
+  -- it neither takes the slot k nor gives it back
+  abbrev pub LeavesSlot : ℕ → List (ℕ × S) → Act S → Type 0
+  LeavesSlot k slots keeps = Unit {0}
+  LeavesSlot k slots (takes j x) = k ≢ j
+  LeavesSlot k [] gives = Unit {0}
+  LeavesSlot k (x ∷ xs) gives = k ≢ x.0
+  LeavesSlot k slots (chain a b) = ⊥
+
+module _ {S V : Type 0} where
+  -- the last step on the slot k gave it back with y in it; or no step was made on it, and y lay there at first
+  abbrev pub IsLastPut : ℕ → S → List S → Past S V → Type 0
+  IsLastPut k y opened begins = get_elem? opened k ≡ some y
+  IsLastPut k y opened (steps past s id e slots act) =
+      Gives k y slots act ⊎ (LeavesSlot k slots act × IsLastPut k y opened past)
+  IsLastPut k y opened (splits past s id) = IsLastPut k y opened past
+  IsLastPut k y opened (joins past s a b) = IsLastPut k y opened past
+
+  -- what lies at home in a slot is what the last step on it put there, and so is what a step takes
+  pub record AreAsPut (terms : Terms S V) : Type 0 where
+    pub at_home : (now : State S V) (past : Past S V) (run : IsRun terms now past) (k : ℕ) (y : S)
+        → get_elem? now.homes k ≡ some (some y) → IsLastPut k y run.slots past
+    pub taken : (now s : State S V) (past : Past S V) (id : ℕ) (e : Entry) (slots : List (ℕ × S)) (k : ℕ) (y : S)
+        (run : IsRun terms now (steps past s id e slots (takes k y))) → IsLastPut k y run.slots past
+
+module _ {S V : Type 0} where
+  -- s stands at a moment of the run to `now`, and came so
+  abbrev pub StandsIn : State S V → Past S V → State S V → Past S V → Type 0
+  StandsIn s came now begins = (s ≡ now) × (came ≡ begins)
+  StandsIn s came now (steps past z id e slots act) =
+      ((s ≡ now) × (came ≡ steps past z id e slots act)) ⊎ StandsIn s came z past
+  StandsIn s came now (splits past z id) = ((s ≡ now) × (came ≡ splits past z id)) ⊎ StandsIn s came z past
+  StandsIn s came now (joins past z a b) = ((s ≡ now) × (came ≡ joins past z a b)) ⊎ StandsIn s came z past
+
+  -- the seat j made the step e at a moment of the run to `now`, and had made the steps `older` before
+  pub record IsMade (now : State S V) (past : Past S V) (j : ℕ) (e : Entry) (older : List Entry) : Type 0 where
+    pub before : State S V
+    pub came : Past S V
+    pub slots : List (ℕ × S)
+    pub act : Act S
+    pub after : State S V
+    pub stands : StandsIn after (steps came before j e slots act) now past
+    pub log : log_of j came ≡ older
+
+  -- at a moment of the run to `now` some seat had this log
+  pub record HasLog (now : State S V) (past : Past S V) (log : List Entry) : Type 0 where
+    pub at : State S V
+    pub came : Past S V
+    pub seat : ℕ
+    pub stands : StandsIn at came now past
+    pub is : log_of seat came ≡ log
+
+  -- what is logged is of the run: each entry of a seat's log is a step of the seat, made after the older ones; each log
+  -- that it has taken in was that of a seat; and what stands at a moment of a run came by a run
+  pub record LogsAreOfRuns (terms : Terms S V) : Type 0 where
+    pub own : (now : State S V) (past : Past S V) (j : ℕ) (newer : List Entry) (e : Entry) (older : List Entry)
+        → log_of j past ≡ newer ++ e ∷ older → IsMade now past j e older
+    pub taken : (now : State S V) (past : Past S V) (j : ℕ) (xs : List (List Entry)) (log : List Entry)
+        (ys : List (List Entry)) → took_of j past ≡ xs ++ log ∷ ys → HasLog now past log
+    pub earlier : (now s : State S V) (past came : Past S V) → IsRun terms now past → StandsIn s came now past
+        → IsRun terms s came

@@ -10,7 +10,7 @@ use Rattle.tj_log.specs.declared.entry.Did.{Did}
 use Rattle.tj_log.specs.declared.entry.Did.TheVariants.{Load, Store, Swap, Add, Sub, Exchange}
 use Rattle.tj_log.specs.declared.entry.Entry.{Entry}
 use Rattle.tj_log.specs.declared.entry.Logged.{Logged}
-use Rattle.tj_log.specs.Logs.{own_state}
+use Rattle.tj_log.specs.Logs.{numbers, own_state}
 
 -- what a step leaves in its word, where it found n
 abbrev pub left : Did → ℕ → ℕ → ℕ → ℕ
@@ -69,10 +69,11 @@ terms_of holds tells left_half right_half both spent opens first may_join = reco
   may_join = may_join;
 }
 
--- how a table came from what stood at first: each state that stood before, with what was done then
+-- how a table came from what stood at first: each state that stood before, with what was done then, and of a step the
+-- slots that its seat had, and what it did with them
 pub data Past (S V : Type 0) : Type 0 where
   begins : Past S V
-  steps : Past S V → State S V → ℕ → Entry → Past S V
+  steps : Past S V → State S V → ℕ → Entry → List (ℕ × S) → Act S → Past S V
   splits : Past S V → State S V → ℕ → Past S V
   joins : Past S V → State S V → ℕ → ℕ → Past S V
 
@@ -80,39 +81,47 @@ module _ {S V : Type 0} where
   -- the steps of the seat j itself, the last first; the seat that is taken in loses them
   abbrev pub log_of : ℕ → Past S V → List Entry
   log_of j begins = []
-  log_of j (steps past s id e) = cond (eqb j id) (e ∷ log_of j past) (log_of j past)
+  log_of j (steps past s id e c a) = cond (eqb j id) (e ∷ log_of j past) (log_of j past)
   log_of j (splits past s id) = log_of j past
   log_of j (joins past s a b) = cond (eqb j b) [] (log_of j past)
 
-  -- the steps of the seats that it has taken in
-  abbrev pub took_of : ℕ → Past S V → List Entry
+  -- the logs of the seats that it has taken in
+  abbrev pub took_of : ℕ → Past S V → List (List Entry)
   took_of j begins = []
-  took_of j (steps past s id e) = took_of j past
+  took_of j (steps past s id e c a) = took_of j past
   took_of j (splits past s id) = took_of j past
   took_of j (joins past s a b) =
-      cond (eqb j b) [] (cond (eqb j a) (took_of a past ++ log_of b past ++ took_of b past) (took_of j past))
+      cond (eqb j b) [] (cond (eqb j a) (took_of a past ++ log_of b past ∷ took_of b past) (took_of j past))
+
+  -- the numbers of the slots that the last step of the seat j left it with
+  abbrev pub slots_of : ℕ → Past S V → List ℕ
+  slots_of j begins = []
+  slots_of j (steps past s id e c a) = cond (eqb j id) (numbers (carried_after c a)) (slots_of j past)
+  slots_of j (splits past s id) = slots_of j past
+  slots_of j (joins past s a b) = cond (eqb j b) [] (slots_of j past)
 
   -- what stood at first
   abbrev pub first_of : State S V → Past S V → State S V
   first_of now begins = now
-  first_of now (steps past s id e) = first_of s past
+  first_of now (steps past s id e c a) = first_of s past
   first_of now (splits past s id) = first_of s past
   first_of now (joins past s a b) = first_of s past
 
   module _ (terms : Terms S V) where
-    -- a step of the seat id, which its log says so
-    pub record IsStep (id : ℕ) (e : Entry) (s t : State S V) : Type 0 where
-      pub me : Me S V
-      pub me_after : Me S V
-      pub act : Act S
-      pub at : get_elem? s.views id ≡ some me.0
-      pub may : Valid s.homes me.1 act
+    -- a step of the seat id, which its log says so; the seat has the slots that its last step left it with, and in them
+    -- what it took, or what it has put there since by exchanges, which are no steps
+    pub record IsStep (id : ℕ) (e : Entry) (had : List ℕ) (has : List (ℕ × S)) (act : Act S) (s t : State S V)
+        : Type 0 where
+      pub view : V
+      pub view_after : V
+      pub at : get_elem? s.views id ≡ some view
+      pub slots : numbers has ≡ had
+      pub may : Valid s.homes has act
       pub plain : IsPlain act
-      pub slots : me_after.1 ≡ carried_after me.1 act
       pub found : e.found ≡ tell e.did e.first (slice_index s.words e.word)
-      pub told : terms.tells e.did (step (length s.homes) e.word e.first e.second none) me
-          (slice_index s.words e.word) me_after
-      pub after : t ≡ stepped s e.word (left e.did e.first e.second (slice_index s.words e.word)) id me.1 me_after.0 act
+      pub told : terms.tells e.did (step (length s.homes) e.word e.first e.second none) (view, has)
+          (slice_index s.words e.word) (view_after, carried_after has act)
+      pub after : t ≡ stepped s e.word (left e.did e.first e.second (slice_index s.words e.word)) id has view_after act
 
     -- a seat is split
     pub record IsSplit (id : ℕ) (s t : State S V) : Type 0 where
@@ -124,13 +133,14 @@ module _ {S V : Type 0} where
         views = slice_set s.views id (terms.left_half view) ++ terms.right_half view ∷ [];
       }
 
-    -- a seat takes another one in
-    pub record IsJoin (id other : ℕ) (s t : State S V) : Type 0 where
+    -- a seat takes another one in, which has no slot
+    pub record IsJoin (id other : ℕ) (had : List ℕ) (s t : State S V) : Type 0 where
       pub view : V
       pub taken : V
       pub at : get_elem? s.views id ≡ some view
       pub apart : other ≢ id
       pub other_at : get_elem? s.views other ≡ some taken
+      pub none : had ≡ []
       pub may : terms.may_join view taken
       pub after : t ≡ record {
         words = s.words;
@@ -141,9 +151,9 @@ module _ {S V : Type 0} where
     -- what stands came so: each state under the rule, and each step as it is said
     abbrev pub Came : State S V → Past S V → Type 0
     Came now begins = Unit {0}
-    Came now (steps past s id e) = terms.holds s × IsStep id e s now × Came s past
+    Came now (steps past s id e c a) = terms.holds s × IsStep id e (slots_of id past) c a s now × Came s past
     Came now (splits past s id) = terms.holds s × IsSplit id s now × Came s past
-    Came now (joins past s a b) = terms.holds s × IsJoin a b s now × Came s past
+    Came now (joins past s a b) = terms.holds s × IsJoin a b (slots_of b past) s now × Came s past
 
     -- what stands is under the rule, and came so from what stands at first
     pub record IsRun (now : State S V) (past : Past S V) : Type 0 where
@@ -156,17 +166,20 @@ module _ {S V : Type 0} where
 
 module _ {V : Type 0} where
   -- what the views have at j
-  abbrev pub entries_at : (Logged V → List Entry) → List (Logged V) → ℕ → List Entry
+  abbrev pub entries_at : {A : Type 0} → (Logged V → List A) → List (Logged V) → ℕ → List A
   entries_at f [] j = []
   entries_at f (v ∷ vs) zero = f v
   entries_at f (v ∷ vs) (suc j) = entries_at f vs j
 
-  -- the log of the seat j, and what it has taken in
+  -- the log of the seat j, what it has taken in, and the numbers of the slots that its last step left it with
   abbrev pub log_at : List (Logged V) → ℕ → List Entry
   log_at = entries_at (λ v. v.log)
 
-  abbrev pub took_at : List (Logged V) → ℕ → List Entry
+  abbrev pub took_at : List (Logged V) → ℕ → List (List Entry)
   took_at = entries_at (λ v. v.took)
+
+  abbrev pub slots_at : List (Logged V) → ℕ → List ℕ
+  slots_at = entries_at (λ v. v.slots)
 
 module _ {S V : Type 0} where
   -- the rule of a table with logs: it came to what stands by a run, and each seat's log has its steps of that run
@@ -175,5 +188,6 @@ module _ {S V : Type 0} where
     pub run : IsRun terms (own_state s) past
     pub logs : (j : ℕ) → log_at s.views j ≡ log_of j past
     pub tooks : (j : ℕ) → took_at s.views j ≡ took_of j past
+    pub left_slots : (j : ℕ) → slots_at s.views j ≡ slots_of j past
     -- a seat that was never split and has taken in none is the only one
     pub lone : (j : ℕ) (v : Logged V) → get_elem? s.views j ≡ some v → v.lone ≡ true → length s.views ≡ 1

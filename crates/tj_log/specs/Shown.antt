@@ -4,14 +4,14 @@ use Rattle.atomic_table.specs.Table.{Me}
 use Rattle.atomic_table.specs.Seated.{TableId}
 use Rattle.tj_log.specs.declared.entry.Entry.{Entry}
 
--- a seat: its table, its number, the caller's view with the slots that it has, its own steps, the last first, those
--- of the seats that it has taken in, and whether it is the first seat, which was never split and has taken in none
+-- a seat: its table, its number, the caller's view with the slots that it has, its own steps, the last first, the
+-- logs of the seats that it has taken in, and whether it is the first seat, which was never split and has taken in none
 pub record SeatShown (S V : Type 0) : Type 0 where
   pub table_id : TableId
   pub id : ℕ
   pub me : Me S V
   pub log : List Entry
-  pub took : List Entry
+  pub took : List (List Entry)
   pub lone : Bool
 
 -- a table: which one it is, and what it was told when it was made

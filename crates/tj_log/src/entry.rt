@@ -26,8 +26,10 @@ pub struct Logged<V> {
     pub own: V,
     /// The seat's own steps, the last first.
     pub log: [Entry; 0],
-    /// The steps of the seats that it has taken in.
-    pub took: [Entry; 0],
+    /// The logs of the seats that it has taken in, each whole.
+    pub took: [[Entry; 0]; 0],
     /// Whether it is the first seat, which was never split and has taken in none.
     pub lone: bool,
+    /// The numbers of the slots that its last step left it with, that of the slot taken last in front.
+    pub slots: [u64; 0],
 }

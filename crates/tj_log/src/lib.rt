@@ -11,6 +11,6 @@ mod seat;
 mod table;
 
 pub use entry::{Did, Entry, Logged};
-pub use laws::fresh_is_first;
+pub use laws::{fresh_is_first, logs_are_of_runs, slots_are_as_put};
 pub use seat::LogSeat;
 pub use table::{LogRule, LogTable, Logs};

@@ -1,4 +1,7 @@
 //! A seat with its log.
+ghost use Rattle.std.specs.Prelude.{◌≡◌};
+ghost use Rattle.tj_log.specs.Logs.{numbers};
+
 use crate::entry::Logged;
 use atomic_table::Seat;
 use std::marker::Model;
@@ -7,6 +10,7 @@ use std::marker::Model;
 #[derive(Drop)]
 pub struct LogSeat<S, V> {
     pub(crate) seat: Seat<S, Logged<V>>,
+    ghost same_slots: { numbers seat.me.1 ≡ seat.me.0.slots },
 }
 
 impl<S, V> Model for LogSeat<S, V> {

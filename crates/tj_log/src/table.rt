@@ -188,7 +188,7 @@ impl<S, V, K, P: LogRule<S, V, K>, A: Allocator> LogTable<S, V, K, P, A> {
         ensures { (seat.new.table_id ≡ seat.old.table_id) × (seat.new.id ≡ seat.old.id)
             × (seat.new.me ≡ (P.both seat.old.me.0 other.me.0, seat.old.me.1))
             × (seat.new.log ≡ seat.old.log)
-            × (seat.new.took ≡ seat.old.took ++ other.log ++ other.took) }
+            × (seat.new.took ≡ seat.old.took ++ other.log ∷ other.took) }
     {
         let LogSeat { seat: taken } = other;
         self.table

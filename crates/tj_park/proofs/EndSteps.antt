@@ -6,7 +6,7 @@ use Rattle.tj_park.proofs.Prelude.{KnowsMore, List, MayBreak, MayCloseResult, Ma
 use Rattle.tj_park.proofs.Prelude.{Program, Rec, SeatMe, SlotsOf, Some, ToldBy, View, WritesBecome, [], ap, arith}
 use Rattle.tj_park.proofs.Prelude.{backing_idle, became, begins_self, cell, drop, ended_record, finish_cells, gave_up}
 use Rattle.tj_park.proofs.Prelude.{in_either, in_left, in_right, inl, inr, inside, length, let_go, map, more_in_front}
-use Rattle.tj_park.proofs.Prelude.{more_on, more_same, numbers, record_cells, refl, rest, subst, sym, tail_on, take}
+use Rattle.tj_park.proofs.Prelude.{more_on, more_same, numbers, record_cells, refl, rest, subst, sym, tail_on}
 use Rattle.tj_park.proofs.Prelude.{to_task, with_tokens, without, without_due, ℕ, ⊎_elim, ◌+◌, ◌-◌, ◌<◌, ◌∙◌, ◌∷◌, ◌≡◌}
 use Rattle.tj_park.proofs.Prelude.{◌≢◌, ◌≤◌, ◌⊎◌}
 use Rattle.tj_words.specs.declared.record.Held.{Held}

@@ -17,3 +17,4 @@ pub mod NothingToCome
 pub mod Prelude
 pub mod EndRuns
 mod OwnedCells
+pub mod ParkLogs

@@ -4,7 +4,7 @@ use Rattle.tj_park.proofs.Prelude.{Answer, Bool, CellId, Finish, HasName, IsCell
 use Rattle.tj_park.proofs.Prelude.{Point, Program, Rec, Reference, TellsStage, View, [], ap, begins_at, cell, get_elem?}
 use Rattle.tj_park.proofs.Prelude.{in_order, inl}
 use Rattle.tj_park.proofs.Prelude.{none_some, refl, some, some-injective, sym, to_task, ℕ, ◌+◌, ◌∙◌, ◌≡◌, ◌≢◌}
-use Rattle.std.proofs.Common.{◌↔◌, List, drop, Option, Some, subst, arith}
+use Rattle.std.proofs.Common.{◌↔◌, List, drop, Option, Some, subst, arith, ⊎_elim}
 use Rattle.atomic_table.specs.Table.{State}
 use Rattle.tj_body.specs.Laws.{IsAllGood, NamesApart, Stops}
 use Rattle.tj_body.specs.Points.{Begins, HasEnded, IsPointOf, IsProper}
@@ -179,7 +179,7 @@ module _ {B : Type 0} (program : Bool → B → Program B) (t : ℕ) (r : Rec B)
       owes_there = (c, kept.1.1, fits.1, λ d. (forth d, back d))
 
   pub owes_at_home : (e : Entry) → HasSeen w.filled t e → OwesAtHome program t (drop 1 r.owned) w
-  owes_at_home e seen key s rule id at free =
-      let ended = has_ended key s rule id at free e seen in
+  owes_at_home e seen key s rule id at known =
+      let ended = ⊎_elim (λ h. h) (λ free. has_ended key s rule id at free e seen) known in
       let owes = owes_there key s rule id at ended in
       (ended, owes.0, owes.1, owes.2, owes.3)

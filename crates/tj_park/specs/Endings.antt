@@ -1,6 +1,6 @@
 -- How a task ends: what `finish` asks of the record, of the point of the task's history that it tells and of the seat,
 -- and what it makes of the seat.
-use Rattle.std.specs.Prelude.{◌≡◌, ◌↔◌, ℕ, ◌+◌, ◌<◌, Bool, List, [], drop, Option, Some, None}
+use Rattle.std.specs.Prelude.{◌≡◌, ◌⊎◌, ◌↔◌, ℕ, ◌+◌, ◌<◌, Bool, List, [], drop, Option, Some, None}
 use mathlib.Core.Option.{some}
 use lib.ListN.{get_elem?}
 use Rattle.atomic_table.specs.Table.{State}
@@ -107,10 +107,12 @@ module _ {B : Type 0} where
   abbrev pub IsWithNobody : ℕ → List (View B) → Type 0
   IsWithNobody t views = Each (λ j (v : View B). held_in v.tasks t ≡ None) views
 
-  -- in each table under the law in which a seat has this view, and in which no seat holds t, PHASE says that t has
-  -- ended, and a record of t lies at home that owns nothing, and owes these cells and no others
+  -- in each table under the law in which a seat has this view, and in which PHASE of t is Ended or no seat holds t, it
+  -- is Ended, and a record of t lies at home that owns nothing, and owes these cells and no others
   abbrev pub OwesAtHome : (Bool → B → Program B) → ℕ → List CellId → View B → Type 0
   OwesAtHome program t owed v = (key : Key B) (s : State (Option (Rec B)) (View B)) → Rule program key s → (id : ℕ)
-      → get_elem? s.views id ≡ some v → IsWithNobody t s.views → ((contents_of s).words.phase t ≡ phase.Ended)
+      → get_elem? s.views id ≡ some v
+      → ((contents_of s).words.phase t ≡ phase.Ended) ⊎ IsWithNobody t s.views
+      → ((contents_of s).words.phase t ≡ phase.Ended)
       × (r : Rec B) × (home_of (contents_of s) t ≡ Some r) × (r.owned ≡ [])
       × ((c : CellId) → IsIn c r.owed ↔ IsIn c owed)

@@ -4,3 +4,4 @@ pub mod ParkViews
 pub mod Wakes
 pub mod Inner
 pub mod Endings
+pub mod ParkLogs

@@ -6,9 +6,11 @@ ghost use Rattle.atomic_table.specs.Table.{rest};
 ghost use Rattle.tj_body.specs.Programs.{program_of};
 ghost use Rattle.tj_words.specs.SeatViews.KnowsMore.{IsTailOf};
 ghost use Rattle.tj_words.specs.SeatViews.SeatSteps.{IsCellOf, IsSameSeat, IsSeatOf};
+ghost use Rattle.tj_cells.specs.CallLogs.{Grows};
 ghost use Rattle.tj_park.specs.Inner.Breaks.{HasBroken, MayBreak};
 ghost use Rattle.tj_park.specs.Endings.{HasFinished, MayFinish, OwesAtHome};
 ghost use Rattle.tj_park.specs.Inner.Closings.{ClosesResult, MayCloseResult};
+ghost use Rattle.tj_park.specs.ParkLogs.{StoresPhase};
 ghost use Rattle.tj_park.specs.Records.{HasNoRecord};
 ghost use Rattle.tj_park.specs.Wakes.{WakesEach};
 ghost use Rattle.tj_words.specs.Words.Lists.{numbers};
@@ -60,8 +62,10 @@ pub fn finish<B: Body, P: Pool, R: Wait>(
     // Its slot has left the seat too.
     ensures slots { OnOk result (seat.new.me.1 ≡ rest seat.old.me.1) }
     // Its record went home: in each table under the law in which a seat has the view that `finish`
-    // leaves, and in which no seat holds the task, PHASE says that it has ended, and a record of it
-    // lies at home that owns nothing, and owes the promises that were broken and no others.
+    // leaves, and in which PHASE of the task is Ended, or no seat holds it, PHASE is Ended, and a
+    // record of the task lies at home that owns nothing, and owes the promises that were broken and
+    // no others. That PHASE is Ended wherever a seat has this log, `log_ended` and the law
+    // `tj_laws::logged_phases` say.
     ensures home { OnOk result (OwesAtHome (program_of B.places B.awaits B.left B.asks B.then) t.0
         (drop 1 rec.owned) seat.new.me.0) }
     // For each promise that it owed, one after the other, and for its result at last, those who
@@ -70,6 +74,10 @@ pub fn finish<B: Body, P: Pool, R: Wait>(
     // seat notes in this call that it was parked was put into the pool once.
     ensures woke { OnOk result (WakesEach P.puts (numbers (drop 1 rec.owned) ++ t.0 ∷ [])
         seat.old.me.0 seat.new.me.0 pool.old pool.new) }
+    // The log of the seat is longer by the steps of this call, after an error too.
+    ensures log { Grows seat.old seat.new }
+    // After `Ok` one of them has stored PHASE of the task as Ended.
+    ensures log_ended { OnOk result (StoresPhase t.0 Phase.Ended seat.old seat.new) }
 {
     points_in_rounds::<B>();
     points_are_good::<B>();
@@ -110,6 +118,7 @@ fn break_promises<B: Body, P: Pool, R: Wait>(
     ensures broken { OnOk result (HasBroken t.0 promises.now [] seat.old.me.0 seat.new.me.0) }
     ensures woke { OnOk result (WakesEach P.puts (numbers promises.now) seat.old.me.0
         seat.new.me.0 pool.old pool.new) }
+    ensures log { Grows seat.old seat.new }
 {
     for p in promises {
         break_off(laid, seat, t, *p);
@@ -127,6 +136,7 @@ fn close_result<B: Body>(laid: &Laid<B>, seat: &mut WSeat<B>, t: CellId, finish:
         seat.old.me.0 }
     ensures seat { IsSameSeat seat.old seat.new }
     ensures view { ClosesResult t.0 finish seat.old.me.0 seat.new.me.0 }
+    ensures log { Grows seat.old seat.new }
 {
     if let Some(f) = finish {
         close_by(laid, seat, t, f);
@@ -141,6 +151,7 @@ fn close_by<B: Body>(laid: &Laid<B>, seat: &mut WSeat<B>, t: CellId, f: Finish)
         seat.old.me.0 }
     ensures seat { IsSameSeat seat.old seat.new }
     ensures view { ClosesResult t.0 (Some f) seat.old.me.0 seat.new.me.0 }
+    ensures log { Grows seat.old seat.new }
 {
     match f {
         Finish::Done(v) => fill(laid, seat, t, t, v),

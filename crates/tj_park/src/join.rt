@@ -3,6 +3,7 @@ ghost use Rattle.std.specs.Prelude.{suc, ◌≡◌, ◌+◌, ◌≤◌, [], ◌�
 ghost use Rattle.tj_events.specs.declared.walk.Way.{Way};
 ghost use Rattle.tj_words.specs.Calls.ParkSteps.{new_push};
 ghost use Rattle.tj_words.specs.SeatViews.SeatSteps.{IsCellOf, IsSameSeat, IsSeatOf};
+ghost use Rattle.tj_park.specs.ParkLogs.{MakesJoin};
 ghost use Rattle.tj_park.specs.ParkViews.{HasFoundChains};
 ghost use Rattle.tj_park.specs.Inner.JoinViews.{FindsShutOnce, IsAdded, LooksOn, join_steps};
 
@@ -22,6 +23,7 @@ pub(crate) fn join_chain<B: Body>(laid: &Laid<B>, seat: &mut WSeat<B>, t: CellId
     ensures pushes { HasFoundChains laid.now.cells seat.old.me.0 seat.new.me.0 }
     ensures closed { FindsShutOnce q.0 result seat.old.me.0 seat.new.me.0 }
     ensures steps { seat.new.me.0.steps ≤ seat.old.me.0.steps + join_steps laid.now.cells }
+    ensures log { MakesJoin t.0 q.0 result seat.old seat.new }
     ensures added { IsAdded q.0 result seat.old.me.0 seat.new.me.0 }
 {
     let mut behind = laid.head(seat, q);

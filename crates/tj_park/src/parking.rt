@@ -5,6 +5,7 @@ ghost use Rattle.tj_body.specs.Programs.{program_of};
 ghost use Rattle.tj_words.specs.Calls.LiveViews.{HasSlot};
 ghost use Rattle.tj_words.specs.SeatViews.SeatSteps.{IsCellOf, IsSeatOf};
 ghost use Rattle.tj_park.specs.Records.{HasNoRecord};
+ghost use Rattle.tj_park.specs.ParkLogs.{MakesPark, MakesReturn};
 ghost use Rattle.tj_park.specs.ParkViews.{GaveBack, IfBack, IfLeft, LeftTask, MayParkTask};
 
 use crate::join::join_chain;
@@ -61,6 +62,14 @@ pub fn park<B: Body>(
         seat.old.me.0 seat.new.me.0) }
     // Its slot is the seat's, and empty.
     ensures back_slot { IfBack result (λ _. seat.new.me.1 ≡ (t.0, None) ∷ rest seat.old.me.1) }
+    // Where the task is left, the steps of this call are: PHASE is stored as Parked, the head is
+    // loaded, and then, once or more, NEXT is stored and a push made that asks for the head found
+    // last; the last push finds that head and adds the task. LIVE is lowered at last.
+    ensures left_log { IfLeft result (MakesPark t.0 q.0 way seat.old seat.new) }
+    // Where it runs again they are: PHASE is stored as Parked, and the head is loaded; each push
+    // fails, until the head is found shut, by the load or by a push. Then the exchange of PHASE from
+    // Parked on this cell to Running finds Parked, and OTHERS is lowered if the wait was counted.
+    ensures back_log { IfBack result (λ _. MakesReturn t.0 q.0 way seat.old seat.new) }
 {
     drop(laid.slot_swap(seat, t, Some(rec)));
     laid.put_phase(seat, t, Phase::Waiting(q, way, Walk::Parked));

@@ -1,8 +1,10 @@
 //! A task that has alarmed is shelved.
-ghost use Rattle.std.specs.Prelude.{◌≡◌};
+ghost use Rattle.std.specs.Prelude.{◌≡◌, ℕ};
 ghost use Rattle.atomic_table.specs.Table.{rest};
 ghost use Rattle.tj_body.specs.Programs.{program_of};
 ghost use Rattle.tj_words.specs.Calls.LiveViews.{HasSlot};
+ghost use Rattle.tj_words.specs.CallLaws.StepCalls as call;
+ghost use Rattle.tj_words.specs.CallLaws.StepLogs.{IsLogged};
 ghost use Rattle.tj_words.specs.SeatViews.SeatSteps.{IsCellOf, IsSeatOf};
 ghost use Rattle.tj_park.specs.ChildViews.{MayShelve, shelved};
 
@@ -22,6 +24,8 @@ pub fn shelve<B: Body>(laid: &Laid<B>, seat: &mut WSeat<B>, t: CellId, rec: Rec<
     ensures id { seat.new.id ≡ seat.old.id }
     // The task has left the seat with its slot, and a token is given up.
     ensures me { seat.new.me ≡ (shelved t.0 seat.old.me.0, rest seat.old.me.1) }
+    // The call is one step: LIVE is lowered.
+    ensures log { (n : ℕ) × IsLogged call.lowers_live 1 0 n seat.old seat.new }
 {
     drop(laid.slot_swap(seat, t, Some(rec)));
     laid.live_down(seat);

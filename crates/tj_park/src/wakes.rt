@@ -4,6 +4,8 @@
 ghost use Rattle.std.specs.Prelude.{◌≡◌, ◌+◌, ◌≤◌, IfOk, OnErr};
 ghost use Rattle.tj_words.specs.SeatViews.SeatSteps.{IsSeatOf, IsCellOf, IsSameSeat};
 ghost use Rattle.tj_words.specs.Words.Heads.{head_word};
+ghost use Rattle.tj_cells.specs.CallLogs.{Grows};
+ghost use Rattle.tj_park.specs.ParkLogs.{MakesLowered};
 ghost use Rattle.tj_park.specs.Wakes.{MayWake, WakesAll, WakesSome};
 ghost use Rattle.tj_park.specs.Inner.FirstWaiters.{MayWakeFirst, WakesFirst, counted_in, lowered_for};
 
@@ -44,6 +46,8 @@ pub fn wake<B: Body, P: Pool, R: Wait>(
     // are left to the seat; the notes are those of the woken ones.
     ensures memory { OnErr result (WakesSome P.puts P.same p.0 seat.old.me.0 seat.new.me.0
         pool.old pool.new) }
+    // The log of the seat is longer by the steps of this call, after an error too.
+    ensures log { Grows seat.old seat.new }
 {
     let mut first = laid.shut(seat, p);
     let mut woken = 0;
@@ -63,6 +67,7 @@ fn wake_first<B: Body>(laid: &Laid<B>, seat: &mut WSeat<B>, p: CellId, t: CellId
     ensures seat { IsSameSeat seat.old seat.new }
     ensures small { head_word result ≤ laid.now.cells }
     ensures woke { WakesFirst p.0 t.0 result seat.old.me.0 seat.new.me.0 }
+    ensures log { Grows seat.old seat.new }
 {
     let next = laid.next_of(seat, t);
     let was = laid.see_phase(seat, t, None);
@@ -79,6 +84,7 @@ pub(crate) fn lower<B: Body>(laid: &Laid<B>, seat: &mut WSeat<B>, was: Phase)
     ensures seat { IsSameSeat seat.old seat.new }
     ensures view { seat.new.me.0 ≡ lowered_for was seat.new.me.0.steps seat.old.me.0 }
     ensures steps { seat.new.me.0.steps ≤ seat.old.me.0.steps + 1 }
+    ensures log { MakesLowered was seat.old seat.new }
 {
     match was {
         Phase::Waiting(_, Way::Other, _) => laid.others_down(seat),

@@ -84,6 +84,6 @@ fn watched_at_rest(
     let status = status_of(marked(&outcome));
     Ok(ClosedOutput {
         output: Output { status, text },
-        closed: Some(rest.into_closed()),
+        closed: Some(rest.into_closed_at_end()),
     })
 }

@@ -127,7 +127,7 @@ pub fn ended_at_rest<B: Body>(
     let output = ended(alloc, told, &outcome)?;
     Ok(ClosedOutput {
         output,
-        closed: Some(rest.into_closed()),
+        closed: Some(rest.into_closed_at_end()),
     })
 }
 
@@ -147,6 +147,6 @@ fn reported_at_rest<B: Body>(alloc: Global, rest: RestWords<B>) -> Result<Closed
     };
     Ok(ClosedOutput {
         output,
-        closed: Some(rest.into_closed()),
+        closed: Some(rest.into_closed_at_end()),
     })
 }

@@ -1,7 +1,8 @@
-//! A run: a table, a pool with an end for each worker, and the workers, each in a thread of its own
-//! where one can be made. A worker for which no thread could be made runs after the others; any one
-//! of them can finish the run.
+//! A run: a table, a pool with an end for each worker, and the workers. Two start at once, and each
+//! further one where there is work for it, in a thread of its own where one can be made. A worker for
+//! which no thread could be made runs after the one before it; any one of them can finish the run.
 ghost use Rattle.std.specs.Prelude.{◌≡◌, ◌≢◌, ◌⊎◌, ◌<◌, ◌≤◌, [], All, IfErr, IfOk, length};
+ghost use Rattle.std.specs.List.Sorted.{IsPermutation};
 ghost use Rattle.std.specs.Thread.{IsSync};
 ghost use denote.Param.Send.{IsSend};
 ghost use Rattle.tj_base.specs.declared.cell.TheConstants.{MAX_CELLS};
@@ -15,7 +16,7 @@ ghost use Rattle.tj_run.specs.Workers.{IsFree, table_program};
 ghost use Rattle.tj_run.specs.Leaving.{Leaves};
 ghost use Rattle.tj_run.specs.Runs.{EndsItsRun, HasLots, RestsAt};
 
-use crate::turns::worker;
+use crate::turns::{wait_for_work, worker};
 use crate::why::{Left, RunFault, Why};
 use std::alloc::Global;
 use std::sync::Wait;
@@ -81,8 +82,8 @@ fn fault_of(why: Why) -> RunFault
     }
 }
 
-/// A worker for each end of the pool. The last has a new seat and, where one can be made, a new thread.
-#[cycle(workers)]
+/// A worker for each end of the pool. Two are started at once, and each further one by the one before
+/// it, in a thread of its own where one can be made, once there is work for one more.
 pub fn work_all<B: Body, P: Pool, G: Gate, R: Wait + Threads + Sync>(
     rt: &R,
     alloc: Global,
@@ -105,16 +106,55 @@ pub fn work_all<B: Body, P: Pool, G: Gate, R: Wait + Threads + Sync>(
     ensures left { Leaves (program_of B.places B.awaits B.left B.asks B.then) result.1 seat.me.0
         result.0.me }
 {
+    work_more::<B, P, G, R>(rt, alloc, laid, seat, reversed(ends), gate, 0)
+}
+
+// The ends from the last one on, so that the first one's worker is started first.
+fn reversed<P: Pool>(ends: Vec<P>) -> Vec<P>
+    ensures same { IsPermutation ends.items result.items }
+    ensures count { length result.items ≡ length ends.items }
+{
     let mut ends = ends;
-    let number = ends.len() as u32;
+    ends.as_mut_slice().reverse();
+    ends
+}
+
+/// The same for the ends from the last one on, where so many workers have been started before.
+#[cycle(workers)]
+fn work_more<B: Body, P: Pool, G: Gate, R: Wait + Threads + Sync>(
+    rt: &R,
+    alloc: Global,
+    laid: &Laid<B>,
+    seat: WSeat<B>,
+    ends: Vec<P>,
+    gate: &G,
+    started: u32,
+) -> (WSeat<B>, Left)
+    requires table { IsSeatOf laid.now seat }
+    requires free { IsFree laid.now seat.me }
+    requires rooted { IsRooted (table_program (program_of B.places B.awaits B.left B.asks B.then)
+        laid.now) }
+    requires crosses { IsSync R.row × IsSync G.row × IsSend B.row × IsSend P.row }
+    requires pools { All (λ end. P.limit end ≡ laid.now.cells) ends.items }
+    requires lots { HasLots (length ends.items) seat.me.0 }
+    ensures table { result.0.table_id ≡ seat.table_id }
+    ensures left { Leaves (program_of B.places B.awaits B.left B.asks B.then) result.1 seat.me.0
+        result.0.me }
+{
+    let mut seat = seat;
+    let mut ends = ends;
+    let number = started.saturating_add(1);
     let Some(end) = ends.pop() else {
         return (seat, Left::Stopped(Why::Memory));
     };
     if ends.is_empty() {
         return worker(rt, alloc, laid, seat, end, gate, number);
     }
+    if let Some(how) = wait_for_work(rt, laid, &mut seat, started) {
+        return (seat, how);
+    }
     let (mine, theirs) = laid.split(seat);
-    let last = move || -> (WSeat<B>, Left)
+    let own = move || -> (WSeat<B>, Left)
         requires { IsSync R.row × IsSync G.row × IsSend B.row × IsSend P.row
             × IsSeatOf laid.now theirs × IsFree laid.now theirs.me
             × IsRooted (table_program (program_of B.places B.awaits B.left B.asks B.then) laid.now)
@@ -130,8 +170,8 @@ pub fn work_all<B: Body, P: Pool, G: Gate, R: Wait + Threads + Sync>(
             × HasLots (length ends.items) mine.me.0 }
         ensures { (result.0.table_id ≡ mine.table_id) × Leaves
             (program_of B.places B.awaits B.left B.asks B.then) result.1 mine.me.0 result.0.me }
-    { work_all(rt, alloc, laid, mine, ends, gate) };
-    let (a, b) = join(rt, last, others);
+    { work_more(rt, alloc, laid, mine, ends, gate, number) };
+    let (b, a) = join(rt, others, own);
     both_left(laid, a, b)
 }
 

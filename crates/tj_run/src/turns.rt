@@ -1,6 +1,6 @@
 //! A worker's turns. In each it loads STOP, and takes a task from its pool. Where there is none it
 //! loads LIVE: at 0 no task is ready, runs or walks, and no worker is about to make one ready.
-ghost use Rattle.std.specs.Prelude.{◌≡◌, ◌≢◌, ℕ, ◌<◌, IfSome, None};
+ghost use Rattle.std.specs.Prelude.{◌≡◌, ◌≢◌, ℕ, ◌<◌, IfSome, MatchResult, None};
 ghost use Rattle.tj_body.specs.Points.{IsIn};
 ghost use Rattle.tj_body.specs.Programs.{program_of};
 ghost use Rattle.tj_words.specs.Law.{IsRooted};
@@ -10,6 +10,7 @@ ghost use Rattle.tj_run.specs.Workers.{IsFree, table_program};
 ghost use Rattle.tj_run.specs.Leaving.{EndsLog, Found, FoundStop, HasStopped, Leaves};
 ghost use Rattle.tj_run.specs.Inner.Posts.{IsPostOf, IsSamePost};
 ghost use Rattle.tj_run.specs.Inner.Turns.{TurnsTo};
+ghost use Rattle.tj_run.specs.Inner.Waits.{IsLeft};
 
 use crate::pauses::Pauses;
 use crate::post::Post;
@@ -167,4 +168,55 @@ fn stop_run<B: Body>(laid: &Laid<B>, seat: &mut WSeat<B>, why: Why) -> Why
         Some(told) => told,
         None => unreachable!(),
     }
+}
+
+// Loads STOP and LIVE: how many tasks are live, or how a worker leaves that has nothing to do.
+fn live_tasks<B: Body>(laid: &Laid<B>, seat: &mut WSeat<B>) -> Result<u32, Left>
+    requires table { IsSeatOf laid.now seat.old }
+    requires free { IsFree laid.now seat.old.me }
+    ensures table { seat.new.table_id ≡ seat.old.table_id }
+    ensures left { MatchResult result (λ _. IsLeft laid.now seat.old.me.0 seat.new.me) (λ how. Leaves
+        (program_of B.places B.awaits B.left B.asks B.then) how seat.old.me.0 seat.new.me) }
+{
+    if let Some(why) = stop_word(laid, seat) {
+        return Err(Left::Stopped(why));
+    }
+    let live = laid.live(seat);
+    if live == 0 {
+        return Err(Left::Rested);
+    }
+    Ok(live)
+}
+
+/// Waits before one more worker is started than so many. Two are started at once, and a further one
+/// where more tasks are live than workers are started. Where it comes to that no more, it leaves as a
+/// worker does that finds nothing to do.
+pub(crate) fn wait_for_work<B: Body, R: Wait>(
+    rt: &R,
+    laid: &Laid<B>,
+    seat: &mut WSeat<B>,
+    started: u32,
+) -> Option<Left>
+    requires table { IsSeatOf laid.now seat.old }
+    requires free { IsFree laid.now seat.old.me }
+    ensures table { seat.new.table_id ≡ seat.old.table_id }
+    ensures turns { TurnsTo (program_of B.places B.awaits B.left B.asks B.then) laid.now result
+        seat.old.me.0 seat.new.me }
+{
+    if started < 2 {
+        return None;
+    }
+    let mut pauses = Pauses::none();
+    for _i in rt.forever() {
+        match live_tasks(laid, seat) {
+            Err(how) => return Some(how),
+            Ok(live) => {
+                if started < live {
+                    return None;
+                }
+            }
+        }
+        pauses.pause(rt);
+    }
+    unreachable!()
 }

@@ -19,3 +19,5 @@ pub mod CallStores
 pub mod CallViews
 pub mod SlotSteps
 pub mod OwnRuns
+pub mod LoneSeats
+pub mod EntrySteps

@@ -11,3 +11,4 @@ pub mod Verdicts
 pub mod AlikeSeats
 pub mod FreshTables
 pub mod OwnRuns
+pub mod LoneSeats

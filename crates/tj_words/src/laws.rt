@@ -9,6 +9,7 @@ ghost use Rattle.tj_words.specs.CallLaws.CallRuns as called;
 ghost use Rattle.tj_words.specs.CallLaws.FreshTables as fresh;
 ghost use Rattle.tj_words.specs.CallLaws.LastingWords as lasting;
 ghost use Rattle.tj_words.specs.CallLaws.LoggedRuns as logged;
+ghost use Rattle.tj_words.specs.CallLaws.LoneSeats as lone;
 ghost use Rattle.tj_words.specs.CallLaws.OwnRuns as own;
 ghost use Rattle.tj_words.specs.Steps.OneHolders as holder;
 ghost use Rattle.tj_words.specs.Steps.OneStates as state;
@@ -35,6 +36,10 @@ pub fn moments<B>()
     ensures stop { moment.StopStands B }
     // The name of a cell that the seat knows is one of some round.
     ensures names { moment.NamesAreOfRounds B }
+    // At each moment: where a seat has all lots, a task that it doesn't hold, and whose PHASE is none of
+    // Unborn, Promise and Ready, waits or has ended as a task of some round, which has the name that the
+    // seat knows.
+    ensures claim { lone.LoneSeatsClaim B }
 {}
 
 /// Exchanges of what lies in a slot that a seat has.
@@ -145,8 +150,10 @@ pub fn fresh_is_first<B>()
 /// What stands in a table came from what stands at first by step calls, splits and merges alone.
 pub fn tables_have_runs<B>()
     // Law: what stands in a table came from the first state by step calls, each of a seat of which
-    // what it asks is so, by splits, and by merges of idle seats. So the laws of runs speak of a
-    // run that the table has.
+    // what it asks is so, by splits, and by merges of idle seats. These are the steps that the logs
+    // of its seats have: the entries of each log are steps of one seat, in the order of the run, and
+    // so are those of each log that a seat has taken in. So the laws of runs speak of the table's
+    // own run.
     ensures { logged.TablesHaveRuns B }
 {}
 
@@ -156,8 +163,8 @@ pub fn own_runs<B>()
     // Law: the run of a table from its first state is a legal run of the core, of the events of its
     // calls in their order, and what stands shows the state after it.
     ensures legal { own.OwnRunsAreLegal B }
-    // Law: what was so at a moment of that run stays so up to what stands: values, COUNT, cells
-    // that were drawn and in nobody's hand, their words of the tree, that nobody owns a cell, and
+    // Law: what was so at a moment of that run stays so up to what stands: values, heads that are
+    // shut, COUNT, cells that were drawn and in nobody's hand, their words of the tree, that nobody owns a cell, and
     // that LIVE is 0 once a seat has loaded it as 0. Where a walk of a task is at its end, no cycle
     // stood through the task just after it had published.
     ensures stand { own.OwnRunsStand B }

@@ -19,6 +19,7 @@ use crate::records::Records;
 use crate::table::{Laid, WSeat};
 use std::alloc::Global;
 use std::marker::Model;
+use std::mem::forget;
 use std::snapshot::Snapshot;
 use tj_base::CellId;
 use tj_body::{Body, meaning_is_last, rest_is_meaning};
@@ -92,6 +93,23 @@ impl<B: Body> RestWords<B> {
         ensures few { length result ≤ self.limit }
     {
         self.closed
+    }
+
+    /// The words without the records, where the program is about to end. The records aren't given
+    /// back one by one: they stay in memory, which goes with the program.
+    pub fn into_closed_at_end(self) -> Closed
+        // What is given shows the same of each cell.
+        ensures same { result ≡ self.cells }
+        // Its cells are no more than the table was made for.
+        ensures few { length result ≤ self.limit }
+    {
+        let Self {
+            closed,
+            records,
+            ..
+        } = self;
+        forget(records);
+        closed
     }
 }
 

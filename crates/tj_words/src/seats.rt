@@ -1,5 +1,5 @@
 //! Seats of a table: one is split off for each worker, and merged again when it is done.
-ghost use Rattle.std.specs.Prelude.{◌≡◌, [], ◌++◌};
+ghost use Rattle.std.specs.Prelude.{◌≡◌, [], ◌∷◌, ◌++◌};
 ghost use Rattle.tj_words.specs.SeatViews.Views.{IsIdle, MaySplit, both, left_half, right_half};
 
 use crate::table::{Laid, WSeat};
@@ -42,9 +42,9 @@ impl<B: Body> Laid<B> {
         ensures idle { IsIdle result.me.0 }
         // The merged seat's log is that of the first.
         ensures log { result.log ≡ a.log }
-        // Beside it the seat has what the first had taken in, then the log of the second and what
-        // that had taken in.
-        ensures took { result.took ≡ a.took ++ b.log ++ b.took }
+        // Beside it the seat has the logs that the first had taken in, then that of the second and
+        // those that the second had taken in.
+        ensures took { result.took ≡ a.took ++ b.log ∷ b.took }
     {
         self.table.join_seat(&mut a, b);
         a

@@ -42,7 +42,7 @@ pub item_there : (c : Channel) (i : ℕ) → i < c.items → IsIn (item c i) (it
 item_there c i l = thing_there c.opener c.made_before c.items i l
 
 -- a sum over the list of what f makes of each
-total_map : {A B : Type 0} (g : B → ℕ) (f : A → B) (l : List A) → total g (map f l) ≡ total (λ x. g (f x)) l
+pub total_map : {A B : Type 0} (g : B → ℕ) (f : A → B) (l : List A) → total g (map f l) ≡ total (λ x. g (f x)) l
 total_map g f [] = refl
 total_map g f (x ∷ xs) = ap (λ z. g (f x) + z) (total_map g f xs)
 

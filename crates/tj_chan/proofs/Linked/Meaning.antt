@@ -109,7 +109,7 @@ module _ {C : Type 0} (rules : ChatRules C) where
     link_of n t j = run_linked rules lawful root strict fresh obeys linked n t j
 
     -- each channel of a task of a round is opened in the round
-    channel_opened : (n : ℕ) (t : ChatTask C) → IsIn t (Tasks n) → (c : Channel)
+    pub channel_opened : (n : ℕ) (t : ChatTask C) → IsIn t (Tasks n) → (c : Channel)
         → IsIn c (run_of rules (F n) t).channels → IsOpened n c
     channel_opened n t j c i = channels_family rules lawful (F n) (IsOpened n) (suc n) (root_chat root)
         (root_fit rules lawful root strict fresh obeys linked) (λ d k. absurd k) (λ u k d m. (u, k, m)) t j c i
@@ -309,7 +309,7 @@ module _ {C : Type 0} (rules : ChatRules C) where
     same_tasks : (n : ℕ) → AreEntries n → chat_family rules (L n) (suc n) (root_chat root) ≡ Tasks n
     same_tasks n h = same_families n h (suc n) (root_chat root) (λ u i. i)
 
-    lists_are_entries : (n : ℕ) → AreEntries n
+    pub lists_are_entries : (n : ℕ) → AreEntries n
     lists_are_entries zero m c o i l = untouched_found i
     lists_are_entries (suc n) m c o i l =
         let h = lists_are_entries n in
@@ -319,10 +319,10 @@ module _ {C : Type 0} (rules : ChatRules C) where
         (λ t j. ap leaves (same_run n h t j)) in
         ap (λ ws. found_in (state_in ws c) i) s ∙ left_is_entry n m c o i l
 
-    run_same : (n : ℕ) (t : ChatTask C) → IsIn t (Tasks n) → chat_history rules (L n) t ≡ run_of rules (F n) t
+    pub run_same : (n : ℕ) (t : ChatTask C) → IsIn t (Tasks n) → chat_history rules (L n) t ≡ run_of rules (F n) t
     run_same n t j = same_run n (lists_are_entries n) t j
 
-    tasks_same : (n : ℕ) → chat_tasks (chats_of rules root) (suc n) ≡ Tasks n
+    pub tasks_same : (n : ℕ) → chat_tasks (chats_of rules root) (suc n) ≡ Tasks n
     tasks_same n = same_tasks n (lists_are_entries n)
 
     -- the cells of a round

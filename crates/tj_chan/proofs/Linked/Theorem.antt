@@ -19,7 +19,7 @@ use Rattle.tj_chan.proofs.Asks.Spawns.{spawns_linked}
 
 module _ {C : Type 0} (rules : ChatRules C) where
   -- each ask is linked
-  asks_linked : (root : C) (strict : Bool) (x : ChatAsk C) → AskIsLinked rules root strict x
+  pub asks_linked : (root : C) (strict : Bool) (x : ChatAsk C) → AskIsLinked rules root strict x
   asks_linked root strict (ask.Open k) = opens_linked rules root strict k
   asks_linked root strict (ask.Send c v) = sends_linked rules root strict c v
   asks_linked root strict (ask.Recv c) = receives_linked rules root strict c

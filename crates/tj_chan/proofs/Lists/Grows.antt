@@ -214,7 +214,7 @@ module _ {C : Type 0} (rules : ChatRules C) where
   module _ (lawful : AreLawfulChats rules) where
     -- Runs are determined by what is found of the channels of their end.
     module _ (F G : Finds) (t : ChatTask C) (fit : IsFit rules t) where
-      determined : ((c : Channel) → IsIn c (run_of rules F t).channels → AreOneOn F G c) → (k : ℕ)
+      pub determined : ((c : Channel) → IsIn c (run_of rules F t).channels → AreOneOn F G c) → (k : ℕ)
           → k ≤ 2 * suc (rules.left t.chatter) → run_after rules F k t ≡ run_after rules G k t
       determined h zero l = refl
       determined h (suc k) l = at (determined h k (omega arith)) p.stage refl where
@@ -259,7 +259,7 @@ module _ {C : Type 0} (rules : ChatRules C) where
       halts_or_falls (ended v) p e h = inl tt
       halts_or_falls (failed f) p e h = inl tt
 
-      still_halted : (st : ChatStage) (p : ChatPoint C) → p.stage ≡ st → HasHalted F st → run_stage rules F st p ≡ p
+      pub still_halted : (st : ChatStage) (p : ChatPoint C) → p.stage ≡ st → HasHalted F st → run_stage rules F st p ≡ p
       still_halted (answered a) p e h = absurd h
       still_halted (receives c i) p e h = ap (λ z. after_found c i z p) h
       still_halted st p e h = refl

@@ -136,7 +136,7 @@ module _ (name : Name) (cs : List Channel) (es : List SendingEnd) (made : ℕ) (
   opened_next k = record { opener = name; made_before = made; items = k }
 
   -- it is apart from those before
-  new_apart : AreTidy name cs es made op → (k : ℕ) (c : Channel) → IsIn c cs
+  pub new_apart : AreTidy name cs es made op → (k : ℕ) (c : Channel) → IsIn c cs
       → (is_same c (opened_next k) ≡ false) × AreApart c (opened_next k)
   new_apart y k c i = by (y.scoped c i) where
     by : (length c.opener < length name) ⊎ ((c.opener ≡ name) × (c.made_before + c.items ≤ made))

@@ -56,6 +56,8 @@ module _ {B : Type 0} (program : Bool → B → Program B) (root : B) (cells : �
       last = e.last;
       run = e.run;
       seat_is = e.seat_is;
+      log = e.log;
+      took = e.took;
       shown = subst (λ n. AreCellsOf e.last.words n r.cells) of_cells e.shown;
       home = e.home;
     },

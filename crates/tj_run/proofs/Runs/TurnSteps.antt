@@ -11,8 +11,8 @@ use Rattle.tj_words.specs.SeatViews.Moments.{WasSo}
 use Rattle.tj_words.specs.Words.Offsets.{live_at, stop_at}
 use Rattle.tj_words.specs.Words.Phases.{phase_word}
 use Rattle.tj_words.specs.SeatViews.Views.{saw_live, saw_stop}
-use Rattle.tj_run.specs.Leaving.{Found, FoundRest, FoundStop, IsTold, stop_word}
-use Rattle.tj_run.proofs.Seats.FreeSeats.{free_noted, rested_since, workers_same}
+use Rattle.tj_run.specs.Leaving.{Found, FoundRest, FoundStop, HasRested, IsTold, stop_word}
+use Rattle.tj_run.proofs.Seats.FreeSeats.{free_noted, free_rested, rested_since, workers_same}
 use Rattle.tj_run.proofs.Waiting.WaitConditions.{taken_runs}
 use Rattle.tj_run.proofs.Seats.WorkersSteps.{left_on, workers_on}
 use Rattle.tj_words.specs.declared.phase.Phase.TheVariants as phase
@@ -55,6 +55,19 @@ module _ {B : Type 0} where
     knows = more_same old.0 (saw_live n old.0) (note_of note.Live n old.0 ∷ [], refl);
     free = free_noted laid note.Live n old free;
   })
+
+  module _ (laid : Laid B) (n : ℕ) (old mid new : SeatMe B) (free : IsFree laid old) (stop : mid.0 ≡ saw_stop 0 old.0)
+      (kept : mid.1 ≡ old.1) (same : new.1 ≡ mid.1) where
+    -- a free seat that has loaded STOP as 0, and then LIVE as not 0, is free still
+    pub left_looked : new.0 ≡ saw_live n mid.0 → IsLeft laid old.0 new
+    left_looked view = let first = left_unstopped laid old mid free stop kept in
+        left_on laid old.0 mid.0 first.knows new (left_live laid n mid new first.free view same)
+
+    -- where it has loaded LIVE as 0 it has rested
+    pub rested_looked : new.0 ≡ saw_rest mid.0 → HasRested old.0 new
+    rested_looked view = let first = left_unstopped laid old mid free stop kept in
+        rested_since old.0 mid.0 first.knows new
+        (subst (HasRested mid.0) (λ i. (sym view i, sym same i)) (free_rested laid mid first.free))
 
   module _ (program : Bool → B → Program B) where
     -- a stop tells of each seat of the table the same

@@ -1,5 +1,5 @@
 -- The lot of a seat that is split for the last of some workers is enough for the others.
-use Rattle.tj_run.proofs.Prelude.{HasLots, View, [], ap, least_lot, left_half, suc, ℕ, ◌*◌, ◌+◌, ◌-◌, ◌==◌, ◌≡◌, ◌≤◌}
+use Rattle.tj_run.proofs.Prelude.{HasLots, View, [], ap, least_lot, left_half, subst, suc, sym, ℕ, ◌*◌, ◌+◌, ◌==◌, ◌≡◌, ◌≤◌}
 use Rattle.std.proofs.Common.{zero, ◌<◌, false, List, ◌∷◌, ◌++◌, length, length-append, ◌∙◌, arith}
 
 -- a list with one more at its end is one longer
@@ -25,3 +25,11 @@ module _ {B : Type 0} {v : View B} {n m : ℕ} (h : HasLots n v) (one : n ≡ m 
     few = (let f = h.few in omega arith);
     lot = (let l = h.lot in omega arith);
   }
+
+-- a view with the same lot has lots for as many workers
+pub lots_same : {B : Type 0} (n : ℕ) (v w : View B) → w.lot ≡ v.lot → HasLots n v → HasLots n w
+lots_same n v w same h = record {
+  some = h.some;
+  few = h.few;
+  lot = subst (λ lot. least_lot * n ≤ lot) (sym same) h.lot;
+}

@@ -7,6 +7,8 @@ use Rattle.tj_words.proofs.Prelude.{last_moment, reference_of, refl, some, some-
 use Rattle.tj_words.proofs.Prelude.{ℕ, ◌<◌, ◌↔◌, ◌∙◌, ◌∷◌, ◌≡◌, ◌≢◌, ◌≤◌}
 use Rattle.tj_words.proofs.Lemmas.{IsSo, KeepsCells, born_apart, cell_born, index_is, inside, knowing_of, knows_so}
 use Rattle.tj_words.proofs.Lemmas.{name_of}
+use Rattle.tj_words.specs.CallLaws.CallRuns.{asked_by}
+use Rattle.tj_words.specs.CallLaws.LastingWords.{AreOpenPushes, IsOpenPush}
 use Rattle.tj_words.specs.CallLaws.AlikeSeats.{IsTheTables, MergedSeatsAgree, SeatsKnowForGood, SeatsNumberAlike}
 use Rattle.tj_words.proofs.Calls.CallRuns.{call_goes, seats_go}
 use Rattle.tj_words.proofs.Calls.LastingWords.{count_never_falls, values_for_good}
@@ -24,16 +26,28 @@ module _ {B : Type 0} (program : Bool → B → Program B) (key : Key B) where
   abbrev The : State (Option (Rec B)) (View B) → Contents B
   The s = contents_of s
 
-  plain : (s t : State (Option (Rec B)) (View B)) → IsAskedStep program key s t → IsTableStep program key s t
+  abbrev plain : (s t : State (Option (Rec B)) (View B)) → IsAskedStep program key s t → IsTableStep program key s t
   plain s t (inl c) = inl c.made
   plain s t (inr (inl b)) = inr (inl b)
   plain s t (inr (inr b)) = inr (inr b.merge)
 
   -- moments of calls that are asked for are moments
-  pub plain_moments : (u : Ruled program key) (later : List (Ruled program key))
+  abbrev pub plain_moments : (u : Ruled program key) (later : List (Ruled program key))
       → AreAskedMoments program key u later → AreMoments program key u later
   plain_moments u [] a = tt
   plain_moments u (w ∷ ws) a = (plain u.now w.now a.0, plain_moments w ws a.1)
+
+  -- a push among them asks for a head that isn't shut
+  open_push : (s t : State (Option (Rec B)) (View B)) (a : IsAskedStep program key s t)
+      → IsOpenPush program key s t (plain s t a)
+  open_push s t (inl c) = λ p e. (subst (λ z. asked_by program key z c.made.operands c.made.seat) e c.asks).4
+  open_push s t (inr (inl b)) = tt
+  open_push s t (inr (inr b)) = tt
+
+  pub open_pushes : (u : Ruled program key) (later : List (Ruled program key))
+      (a : AreAskedMoments program key u later) → AreOpenPushes program key u later (plain_moments u later a)
+  open_pushes u [] a = tt
+  open_pushes u (w ∷ ws) a = (open_push u.now w.now a.0, open_pushes w ws a.1)
 
   keeps : (u w : Ruled program key) → IsAskedStep program key u.now w.now
       → KeepsCells key.cells (The u.now) (The w.now)

@@ -4,12 +4,13 @@ use Rattle.tj_words.proofs.Prelude.{contents_of, get_elem?, last_moment, subst, 
 use Rattle.std.proofs.Common.{subst₂}
 use Rattle.tj_words.specs.CallLaws.CallRuns.{AreAskedMoments}
 use Rattle.tj_words.specs.CallLaws.OwnRuns.{AreTheLast, OwnRunsAreLegal, OwnRunsStand, StandsFrom}
-use Rattle.tj_words.specs.CallLaws.LastingWords.{CellsStay, CountStays, NobodyStays, TreeWordsStay, ValuesStay}
+use Rattle.tj_words.specs.CallLaws.LastingWords.{CellsStay, CountStays, NobodyStays, ShutHeadsStay}
+use Rattle.tj_words.specs.CallLaws.LastingWords.{TreeWordsStay, ValuesStay}
 use Rattle.tj_words.specs.CallLaws.RestedRuns.{live_in, tag_at}
-use Rattle.tj_words.proofs.Calls.AlikeSeats.{plain_moments}
+use Rattle.tj_words.proofs.Calls.AlikeSeats.{open_pushes, plain_moments}
 use Rattle.tj_words.proofs.Calls.CallRuns.{call_runs_are_legal}
 use Rattle.tj_words.proofs.Calls.LastingWords.{cells_for_good, closes_for_good, count_never_falls, trees_for_good}
-use Rattle.tj_words.proofs.Calls.LastingWords.{values_for_good}
+use Rattle.tj_words.proofs.Calls.LastingWords.{shuts_for_good, values_for_good}
 use Rattle.tj_words.proofs.Calls.RestedRuns.{rest_stays}
 use Rattle.tj_words.proofs.Calls.Verdicts.{ended_walks_off_cycles}
 
@@ -42,6 +43,8 @@ module _ {B : Type 0} (program : Bool → B → Program B) (key : Key B) where
     last = g.1;
     values = subst (λ z. ValuesStay key.cells (contents_of w.now) (contents_of z)) g.1
         (values_for_good B program key w more plain);
+    shuts = subst (λ z. ShutHeadsStay key.cells (contents_of w.now) (contents_of z)) g.1
+        (shuts_for_good B program key w more plain (open_pushes program key w more g.0));
     count = subst (λ z. CountStays key.cells (contents_of w.now) (contents_of z)) g.1
         (count_never_falls B program key w more plain);
     cells = subst (λ z. CellsStay key.cells (contents_of w.now) (contents_of z)) g.1

@@ -22,8 +22,8 @@ use Rattle.tj_body.specs.declared.point.PointStage.TheVariants as stage
 use Rattle.tj_words.specs.declared.phase.Phase.TheVariants as phase
 
 -- cells whose names stand once each are told apart by their names
-names_apart : (l : List Reference) → AreDistinct (names l) → (c d : ℕ) (y z : Reference) → IsCell l c y → IsCell l d z
-    → y.name ≡ z.name → c ≡ d
+pub names_apart : (l : List Reference) → AreDistinct (names l) → (c d : ℕ) (y z : Reference) → IsCell l c y
+    → IsCell l d z → y.name ≡ z.name → c ≡ d
 names_apart [] h c d y z e f q = absurd (some-ne-none y (sym e))
 names_apart (x ∷ xs) h zero zero y z e f q = refl
 names_apart (x ∷ xs) h zero (suc d) y z e f q = absurd (h.0 (subst (λ w. IsIn w (names xs))
@@ -33,7 +33,7 @@ names_apart (x ∷ xs) h (suc c) zero y z e f q = absurd (h.0 (subst (λ w. IsIn
 names_apart (x ∷ xs) h (suc c) (suc d) y z e f q = ap suc (names_apart xs h.1 c d y z e f q)
 
 -- a history that waits is shown by a wait
-waits_there : (born : List Reference) (q : PointStage) (p : Phase) (name : Name) (spare : Bool)
+pub waits_there : (born : List Reference) (q : PointStage) (p : Phase) (name : Name) (spare : Bool)
     → IsPhaseAt born q p → q ≡ stage.Waits name spare
     → (c : CellId) × (way : Way) × (w : Walk) × (r : Reference) × (p ≡ phase.Waiting c way w) × IsCell born c.0 r
     × (r.name ≡ name)
@@ -41,33 +41,33 @@ waits_there born q p name spare h e = let w = subst (λ z. IsPhaseAt born z p) e
     (w.0, w.1, w.2, w.3, w.4, w.6, w.7)
 
 -- and a wait that is shown is one of the history
-waits_at : (born : List Reference) (q : PointStage) (p : Phase) (c : CellId) (way : Way) (w : Walk) → IsPhaseAt born q p
-    → p ≡ phase.Waiting c way w
+pub waits_at : (born : List Reference) (q : PointStage) (p : Phase) (c : CellId) (way : Way) (w : Walk)
+    → IsPhaseAt born q p → p ≡ phase.Waiting c way w
     → (r : Reference) × (spare : Bool) × IsCell born c.0 r × (q ≡ stage.Waits r.name spare)
 waits_at born q p c way w h e = grind arith
 
 module _ {B : Type 0} (program : Program B) (N : ℕ) (shown : List RestCell) (born : List Reference)
     (words : AreWordsOf program N born shown) where
-  abbrev ps : List (Point B)
+  abbrev pub ps : List (Point B)
   ps = meaning program N
 
-  abbrev named : ℕ → Name
+  abbrev pub named : ℕ → Name
   named c = (reference_of born c).name
 
   -- a task that is there
-  abbrev There : ℕ → Type 0
+  abbrev pub There : ℕ → Type 0
   There c = (r : Reference) × IsCell born c r × (r.sort ≡ sort.Task)
 
-  named_is : (c : ℕ) (r : Reference) → IsCell born c r → named c ≡ r.name
+  pub named_is : (c : ℕ) (r : Reference) → IsCell born c r → named c ≡ r.name
   named_is c r e = ap name_of (index_is born c (to_task []) r e)
 
-  apart : (c d : ℕ) (y z : Reference) → IsCell born c y → IsCell born d z → y.name ≡ z.name → c ≡ d
+  pub apart : (c d : ℕ) (y z : Reference) → IsCell born c y → IsCell born d z → y.name ≡ z.name → c ≡ d
   apart = names_apart born words.once
 
-  one_shown : (c : ℕ) (x y : RestCell) → IsShown shown c x → IsShown shown c y → x ≡ y
+  pub one_shown : (c : ℕ) (x y : RestCell) → IsShown shown c x → IsShown shown c y → x ≡ y
   one_shown c x y e f = some-injective x y (sym e ∙ f)
 
-  one_led : graph.LeadsToOne (Leads shown)
+  pub one_led : graph.LeadsToOne (Leads shown)
   one_led t u v h k =
       let a = h.1 in let b = k.1 in
       let same = one_wait (ap (λ (z : RestCell). z.phase) (one_shown t a.0 b.0 a.3 b.3) ∙ b.4) a.4 in
@@ -76,7 +76,7 @@ module _ {B : Type 0} (program : Program B) (N : ℕ) (shown : List RestCell) (b
       ap (λ (c : CellId). c.0) (one_some (cell u) (cell v) (sym o.2 ∙ (ap (λ (z : RestCell). z.own) x ∙ p.2)))
 
   -- a task that waits in the words does so in the meaning, for the cell of that name
-  waits_meant : (t : ℕ) (c : CellId) → There t → Waits shown t c
+  pub waits_meant : (t : ℕ) (c : CellId) → There t → Waits shown t c
       → (r : Reference) × IsCell born c.0 r × meant.Waits ps (named t) r.name
   waits_meant t c there h =
       let w = words.tasks t there.0 there.1 there.2 in let s = w.2 in
@@ -84,13 +84,13 @@ module _ {B : Type 0} (program : Program B) (N : ℕ) (shown : List RestCell) (b
       let z = waits_at born w.0.stage s.x.phase c h.1 h.2 s.phase_is (ap (λ (k : RestCell). k.phase) x ∙ h.4) in
       (z.0, z.2, (w.0, z.1, w.1, sym (named_is t (to_task w.0.name) s.is), z.3))
 
-  owns_meant : (u : ℕ) (c : CellId) (r : Reference) → IsCell born c.0 r → Owns shown u c
+  pub owns_meant : (u : ℕ) (c : CellId) (r : Reference) → IsCell born c.0 r → Owns shown u c
       → meant.Owns ps (named u) r.name
   owns_meant u c r e h =
       let o = words.owners u c h in let w = words.tasks u o.0 o.1 o.2 in
       (w.0, w.1, sym (named_is u (to_task w.0.name) w.2.is), (w.2.owns c r e).0 h)
 
-  waiter_there : (t : ℕ) (c : CellId) → Waits shown t c → There t
+  pub waiter_there : (t : ℕ) (c : CellId) → Waits shown t c → There t
   waiter_there t c h =
       let l = subst (λ k. t < k) (sym words.named.all) (inside shown t h.0 h.3) in
       let e = at_index born t (to_task []) l in (
@@ -100,7 +100,7 @@ module _ {B : Type 0} (program : Program B) (N : ℕ) (shown : List RestCell) (b
             ∙ ap phase_sort h.4,
       )
 
-  image : AreImages named There (Leads shown) (meant.WaitsFor ps)
+  pub image : AreImages named There (Leads shown) (meant.WaitsFor ps)
   image = record {
     stay = λ a b h. words.owners b h.0 h.2;
     steps = λ a b h. let w = waits_meant a h.0 (waiter_there a h.0 h.1) h.1 in
@@ -122,21 +122,21 @@ module _ {B : Type 0} (program : Program B) (N : ℕ) (shown : List RestCell) (b
   }
 
   -- a task of the meaning that waits is there
-  cell_of_waiter : (x y : Name) → meant.WaitsFor ps x y → (a : ℕ) × There a × (named a ≡ x)
+  pub cell_of_waiter : (x y : Name) → meant.WaitsFor ps x y → (a : ℕ) × There a × (named a ≡ x)
   cell_of_waiter x y l = let p = l.1 in let s = words.histories p.0 p.2 in
       (s.0, (to_task p.0.name, s.1.is, refl), named_is s.0 (to_task p.0.name) s.1.is ∙ p.3)
 
-  one_meant : graph.LeadsToOne (meant.WaitsFor ps)
+  pub one_meant : graph.LeadsToOne (meant.WaitsFor ps)
   one_meant x y z h k =
       let a = cell_of_waiter x y h in
       let b = image.back a.0 a.1 y (subst (λ q. meant.WaitsFor ps q y) (sym a.2) h) in
       let c = image.back a.0 a.1 z (subst (λ q. meant.WaitsFor ps q z) (sym a.2) k) in
       sym b.2 ∙ (ap named (one_led a.0 b.0 c.0 b.1 c.1) ∙ c.2)
 
-  same_cells : (a b : ℕ) → Decides (nat_eq a b) (a ≡ b)
+  pub same_cells : (a b : ℕ) → Decides (nat_eq a b) (a ≡ b)
   same_cells a b = (eqb-true a b, eq-eqb a b)
 
-  same_names : (x y : Name) → Decides (same x y) (x ≡ y)
+  pub same_names : (x y : Name) → Decides (same x y) (x ≡ y)
   same_names x y = (same_is x y, λ e. subst (λ z. same x z ≡ true) e (same_self x))
 
   first_waits : (x : Name) (ys : List Name) → graph.LeadsAlong (meant.WaitsFor ps) x ys x

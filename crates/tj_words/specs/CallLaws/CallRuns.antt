@@ -1,7 +1,7 @@
 -- Runs of a table by its calls: each call of a seat of which what the call asks is so, each split, and each merge of
 -- idle seats is the one event of the core that is named here, or none. So from a new table on they are a legal run of
 -- the core.
-use Rattle.std.specs.Prelude.{◌≡◌, ◌≢◌, ◌⊎◌, ℕ, ◌≤◌, ◌<◌, Bool, List, [], ◌∷◌, ◌++◌, Option, Some, None}
+use Rattle.std.specs.Prelude.{◌≡◌, ◌≢◌, ◌⊎◌, ℕ, suc, ◌≤◌, ◌<◌, Bool, List, [], ◌∷◌, ◌++◌, Option, Some, None}
 use mathlib.Core.Logic.{inl, inr}
 use Rattle.atomic_table.specs.Table.{State, Step, Act, keeps, takes, gives, opening}
 use Rattle.tj_base.specs.declared.cell.Sort.{Sort}
@@ -10,13 +10,16 @@ use Rattle.tj_events.specs.CoreState.{present, root_alone}
 use Rattle.tj_events.specs.Events.{MayCount, MayReadAgain, MayReadOthers, MayReadOwner}
 use Rattle.tj_events.specs.Runs.{AreAllowed, IsLegalRun, after_all}
 use Rattle.tj_events.specs.declared.event.Event.{Event}
+use Rattle.tj_words.specs.declared.head.Head.TheVariants.{Shut}
 use Rattle.tj_words.specs.declared.phase.Phase.{Phase}
 use Rattle.tj_words.specs.declared.record.Rec.{Rec}
 use Rattle.tj_words.specs.declared.table.Key.{Key}
 use Rattle.tj_words.specs.declared.view.View.{View}
 use Rattle.tj_words.specs.Law.{Law}
 use Rattle.tj_words.specs.LawParts.Contents.{Contents, contents_of, core_shown}
+use Rattle.tj_words.specs.Calls.ChainSteps.{HasPush, HasPushBehind, KnowsEntry}
 use Rattle.tj_words.specs.Calls.DrawViews.{MayDraw, MayGive}
+use Rattle.tj_words.specs.LawParts.LiveCount.{IsBacked}
 use Rattle.tj_words.specs.LawParts.FirstState.{first_slots, first_view, first_words}
 use Rattle.tj_words.specs.Words.Lists.{cell}
 use Rattle.tj_words.specs.Calls.LiveViews.{MayLowerLive, MayRaiseLive, SlotsOf}
@@ -24,10 +27,12 @@ use Rattle.tj_words.specs.Words.Offsets.{word}
 use Rattle.tj_words.specs.Steps.OwnerSteps.{draw_event}
 use Rattle.tj_words.specs.Words.Owners.{owner_in}
 use Rattle.tj_words.specs.Calls.OwnerViews.{MayClose, MayHand}
+use Rattle.tj_words.specs.Words.Heads.{head_in}
 use Rattle.tj_words.specs.Words.Phases.{phase_in}
 use Rattle.tj_words.specs.Calls.PhaseViews.{MayPutPhase}
 use Rattle.tj_words.specs.CallLaws.RestedRuns.{IsCallStep, IsMerge, IsSplit, Ruled, last_moment}
 use Rattle.tj_words.specs.SeatViews.SeatSteps.{SeatMe}
+use Rattle.tj_words.specs.SeatViews.SeenWords.{MayRead}
 use Rattle.tj_words.specs.CallLaws.StepCalls.{StepCall, place_of}
 use Rattle.tj_words.specs.Steps.TableRuns.{Under, state_of}
 use Rattle.tj_words.specs.SeatViews.Views.{IsIdle}
@@ -107,8 +112,8 @@ module _ {B : Type 0} where
   events_by cells c st k v es = es ≡ []
 
 module _ {B : Type 0} (program : Bool → B → Program B) (key : Key B) where
-  -- what a call asks of its operands and of its seat, beside what it tells only of a seat of which it is so; of the
-  -- others nothing is needed here
+  -- what a call asks of its operands and of its seat, beside what it tells only of a seat of which it is so; the loads
+  -- that any seat may make ask nothing
   abbrev pub asked_by : StepCall → Step (Option (Rec B)) → SeatMe B → Type 0
   asked_by (call.draws t o) st m = MayDraw program t m.0
   asked_by (call.counts_by t) st m = IsWalking t (λ p way w. MayCount way w) m.0
@@ -120,6 +125,12 @@ module _ {B : Type 0} (program : Bool → B → Program B) (key : Key B) where
   asked_by (call.sees_others_by t) st m = IsWalking t (λ p way w. MayReadOthers way w) m.0
   asked_by call.raises_live st m = MayRaiseLive program m
   asked_by call.lowers_live st m = MayLowerLive program m
+  asked_by (call.sees_once c f) st m = MayRead f c m.0
+  asked_by call.stops st m = (0 < st.first) × (st.first ≤ 2) × (st.first ≡ 1 → 0 < m.0.refused)
+  asked_by (call.pushes p) st m = (t : ℕ) × (st.second ≡ suc t) × (t < key.cells)
+      × HasPushBehind t p (head_in st.first) m.0 × (head_in st.first ≢ Shut)
+  asked_by (call.shuts p) st m = KnowsEntry p m.0 × (m.0.rest ≡ None) × IsBacked m.0
+  asked_by (call.puts_next t) st m = (st.first ≤ key.cells) × HasPush t m.0
   asked_by c st m = Unit {0}
 
   -- what a call that found k does with the slots of its seat; the others keep them

@@ -12,7 +12,8 @@ use Rattle.tj_words.specs.declared.record.Rec.{Rec}
 use Rattle.tj_words.specs.declared.table.Key.{Key}
 use Rattle.tj_words.specs.declared.view.View.{View}
 use Rattle.tj_words.specs.CallLaws.CallRuns.{AreAskedMoments, AreShown, joined, under}
-use Rattle.tj_words.specs.CallLaws.LastingWords.{CellsStay, CountStays, NobodyStays, TreeWordsStay, ValuesStay}
+use Rattle.tj_words.specs.CallLaws.LastingWords.{CellsStay, CountStays, NobodyStays, ShutHeadsStay}
+use Rattle.tj_words.specs.CallLaws.LastingWords.{TreeWordsStay, ValuesStay}
 use Rattle.tj_words.specs.CallLaws.LoggedRuns.{HasRun}
 use Rattle.tj_words.specs.CallLaws.RestedRuns.{HasRested, Ruled, last_moment, live_in, tag_at}
 use Rattle.tj_words.specs.CallLaws.Verdicts.{HasEndedWalk, IsOnCycleAt, PublishesAt}
@@ -41,15 +42,16 @@ module _ {B : Type 0} (program : Bool → B → Program B) (key : Key B) where
   StaysTo w s R = R key.cells (contents_of w.now) (contents_of s)
 
   -- what was so at the moment w of a run stays so up to what stands: steps of the same kind lead there; a value is set
-  -- for good; COUNT doesn't fall; what was drawn and in nobody's hand is so still, with its words of the tree, and with
-  -- nobody as its owner if it had none; where some seat had loaded LIVE as 0, LIVE is 0 and no value came; and where w
-  -- is the moment just after a task published its wait, and a walk of that task is at its end now, no cycle stood
-  -- through the task then
+  -- for good; a head that is shut is so still; COUNT doesn't fall; what was drawn and in nobody's hand is so still, with
+  -- its words of the tree, and with nobody as its owner if it had none; where some seat had loaded LIVE as 0, LIVE is 0
+  -- and no value came; and where w is the moment just after a task published its wait, and a walk of that task is at its
+  -- end now, no cycle stood through the task then
   pub record StandsFrom (s : State (Option (Rec B)) (View B)) (w : Ruled program key) (more : List (Ruled program key))
       : Type 0 where
     pub moments : AreAskedMoments program key w more
     pub last : (last_moment program key w more).now ≡ s
     pub values : StaysTo w s ValuesStay
+    pub shuts : StaysTo w s ShutHeadsStay
     pub count : StaysTo w s CountStays
     pub cells : StaysTo w s CellsStay
     pub nobody : StaysTo w s NobodyStays

@@ -54,7 +54,7 @@ abbrev pub entry_of : StepCall → ℕ → ℕ → ℕ → Entry
 entry_of c a b n = record { did = did_of c; word = place_of c; first = a; second = b; found = n }
 
 module _ {B : Type 0} where
-  -- the seat has made one step more, this call
+  -- the seat has made one step more, as this call does
   abbrev pub IsLogged : StepCall → ℕ → ℕ → ℕ → SeatShown (Option (Rec B)) (View B)
       → SeatShown (Option (Rec B)) (View B) → Type 0
   IsLogged c a b n old new = (new.log ≡ entry_of c a b n ∷ old.log) × (new.took ≡ old.took)

@@ -21,3 +21,12 @@ pub returns-clause-made : goal.returns-clause-made
 returns-clause-made g c =
     task_made c.requires.may c.in_ok-c.ensures.drawn c.put_node.ensures.node
     (c.put_owner.ensures.view.0 (may_give_task c.requires.may c.in_ok-c.ensures.drawn c.put_node.ensures.node))
+
+pub returns-clause-log_made : goal.returns-clause-log_made
+returns-clause-log_made g c = (
+  c.draw_named.new.seat,
+  c.put_node.new.seat,
+  c.in_ok-c.ensures.log_drawn,
+  c.put_node.ensures.log,
+  c.put_owner.ensures.log,
+)

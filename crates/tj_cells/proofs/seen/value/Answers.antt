@@ -1,6 +1,6 @@
 use Rattle.std.proofs.Common.{ap, refl, subst, sym, ◌∙◌, ◌∷◌}
 use Rattle.tj_cells.proofs.Prelude.{arith, program_of}
-use Rattle.tj_cells.proofs.ValueWords.{bits_fit, seen_some, sees_value}
+use Rattle.tj_cells.proofs.ValueWords.{bits_fit, seen_some, sees_value, tag_small}
 use Rattle.tj_cells.specs.SeenValues.{seen_in}
 use Rattle.tj_words.specs.CallLaws.StepCalls as call
 use Rattle.tj_words.specs.CallLaws.StepLogs.{IsLogged, entry_of}
@@ -41,6 +41,8 @@ returns-clause-log_value g c = λ _. let tag = c.see_once-tag in let bits = c.se
   tag = tag.result;
   bits = bits.result;
   some = c.if-tag-eq0.false;
+  small = tag_small c.args.laid.now.cells c.args.p.0 tag.result c.args.seat.now.me.0 tag.new.seat.me.0
+      (tag.ensures.sees.1 c.if-tag-eq0.false);
   says = c.seen_of.ensures ∙ ap seen_in c.value_of_words.ensures;
   log = bits.ensures.log.0
       ∙ ap (λ l. entry_of (call.sees_once c.args.p.0 once.Bits) 0 0 bits.result ∷ l) tag.ensures.log.0;

@@ -1,3 +1,4 @@
+use Rattle.tj_laws.proofs.LoneHolders.{lone_seats_hold}
 use Rattle.tj_laws.proofs.ReadyCounts.{readied_once}
 use Rattle.tj_laws.proofs.TaskHolders.{held_throughout, holders_last, laid_throughout, one_seat_holds}
 use Rattle.tj_laws.proofs.holders.one_holder.Goals as goal
@@ -16,3 +17,6 @@ returns-clause-held g c = held_throughout _ c.call_runs.ensures.runs c.lasting_w
 
 pub returns-clause-laid : goal.returns-clause-laid
 returns-clause-laid g c = laid_throughout _ c.call_runs.ensures.runs c.lasting_words.ensures.count
+
+pub returns-clause-lone : goal.returns-clause-lone
+returns-clause-lone g c = lone_seats_hold _

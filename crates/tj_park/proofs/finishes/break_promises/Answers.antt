@@ -2,11 +2,15 @@ use Rattle.tj_park.proofs.Prelude.{MayWake, WakesAll, arith, cell, get_or, progr
 use Rattle.tj_park.proofs.WakeLoops.{nothing_noted}
 use Rattle.tj_park.proofs.BreakSteps.{none_broken, may_give_up, will_break, is_small, may_wake_broken, one_broken}
 use Rattle.tj_park.proofs.BreakSteps.{about_kept, all_woke, next_left, none_left, notes_kept, one_break_woke}
+use Rattle.std.proofs.Common.{None}
+use Rattle.tj_cells.proofs.CallLogs.{grows_still}
+use Rattle.tj_park.proofs.ParkLogs.{broken_grows}
 use Rattle.tj_park.proofs.finishes.break_promises.Goals as goal
 
 pub loop-p-init : goal.loop-p-init
 loop-p-init g c = record {
   seat = (refl, refl, refl);
+  log = grows_still c.args.seat.now c.args.seat.now refl refl;
   limit = refl;
   broken = none_broken (program_of g.B.Body.places g.B.Body.awaits g.B.Body.left g.B.Body.asks g.B.Body.then)
       c.args.t.0 c.args.promises.now c.args.seat.now.me.0 c.requires.may;
@@ -72,6 +76,8 @@ loop-p-preserved g c =
     c.wake.new.seat.me.0 c.loop-p.pool c.wake.new.pool = c.in_ok-wake.ensures.woke in
     record {
       seat = (w.0 ∙ (b.0 ∙ s.0), w.1 ∙ (b.1 ∙ s.1), w.2 ∙ (b.2 ∙ s.2));
+      log = broken_grows (get_or ps i (cell 0)).0 None c.args.seat.now c.loop-p.seat c.break_off.new.seat c.wake.new.seat c.loop-p.invariant.log
+          c.break_off.ensures.log c.wake.ensures.log;
       limit = c.wake.ensures.limit ∙ c.loop-p.invariant.limit;
       broken = one_broken c.requires.may h c.break_off.ensures.view woke.woke;
       woke = one_break_woke g.P.Pool.puts c.args.t.0 ps i c.in_ok-wake.field-0 c.args.seat.now.me.0 c.loop-p.seat.me.0
@@ -105,3 +111,11 @@ returns-in_err-wake-clause-notes g c =
 
 pub returns-clause-notes : goal.returns-clause-notes
 returns-clause-notes g c = c.loop-p.invariant.broken.knows.notes
+
+pub returns-in_err-wake-clause-log : goal.returns-in_err-wake-clause-log
+returns-in_err-wake-clause-log g c = broken_grows (get_or c.args.promises.now c.loop-p.p-index (cell 0)).0 None
+    c.args.seat.now c.loop-p.seat c.break_off.new.seat c.wake.new.seat
+    c.loop-p.invariant.log c.break_off.ensures.log c.wake.ensures.log
+
+pub returns-clause-log : goal.returns-clause-log
+returns-clause-log g c = c.loop-p.invariant.log

@@ -4,6 +4,10 @@ use Rattle.tj_park.proofs.EndRuns.{begun, may_close, laid, may_end, at_end, may_
 use Rattle.tj_park.proofs.EndRuns.{may_lower, finished, slots_then, unnoted_last}
 use Rattle.tj_park.proofs.OwedRecords.{closes_once, owes_at_home}
 use Rattle.tj_park.proofs.WakeLoops.{one_wake_more}
+use Rattle.std.proofs.Common.{[], ◌∷◌}
+use Rattle.tj_cells.proofs.CallLogs.{grows_by, grows_on}
+use Rattle.tj_words.specs.declared.phase.Phase.TheVariants as phase
+use Rattle.tj_park.proofs.ParkLogs.{before_end, stored_phase}
 use Rattle.tj_park.proofs.finishes.finish.Goals as goal
 
 pub break_promises-requires-clause-may : goal.break_promises-requires-clause-may
@@ -155,3 +159,29 @@ returns-in_err-break_promises-clause-notes g c = c.break_promises.ensures.notes
 
 pub returns-clause-notes : goal.returns-clause-notes
 returns-clause-notes g c = (returns-clause-ended g c).knows.notes
+
+pub returns-in_err-wake-clause-log : goal.returns-in_err-wake-clause-log
+returns-in_err-wake-clause-log g c =
+    let old = c.args.seat.now in let laid = c.slot_swap.new.seat in let put = c.put_phase.new.seat in
+    let before = before_end old c.break_promises.new.seat c.close_result.new.seat laid c.break_promises.ensures.log
+    c.close_result.ensures.log c.slot_swap.ensures.log in
+    grows_on old put c.wake.new.seat
+    (grows_on old laid put before (grows_by laid put (_ ∷ []) c.put_phase.ensures.log)) c.wake.ensures.log
+
+pub returns-clause-log : goal.returns-clause-log
+returns-clause-log g c =
+    let old = c.args.seat.now in let laid = c.slot_swap.new.seat in let put = c.put_phase.new.seat in
+    let woke = c.wake.new.seat in let new = c.live_down.new.seat in
+    let before = before_end old c.break_promises.new.seat c.close_result.new.seat laid c.break_promises.ensures.log
+    c.close_result.ensures.log c.slot_swap.ensures.log in
+    grows_on old put new (grows_on old laid put before (grows_by laid put (_ ∷ []) c.put_phase.ensures.log))
+    (grows_on put woke new c.wake.ensures.log (grows_by woke new (_ ∷ []) c.live_down.ensures.log.1))
+
+pub returns-clause-log_ended : goal.returns-clause-log_ended
+returns-clause-log_ended g c =
+    let old = c.args.seat.now in let laid = c.slot_swap.new.seat in let put = c.put_phase.new.seat in
+    let before = before_end old c.break_promises.new.seat c.close_result.new.seat laid c.break_promises.ensures.log
+    c.close_result.ensures.log c.slot_swap.ensures.log in
+    stored_phase c.args.t.0 phase.Ended old laid put c.live_down.new.seat before c.put_phase.ensures.log
+    (grows_on put c.wake.new.seat c.live_down.new.seat c.wake.ensures.log
+    (grows_by c.wake.new.seat c.live_down.new.seat (_ ∷ []) c.live_down.ensures.log.1))

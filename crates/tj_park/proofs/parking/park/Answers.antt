@@ -1,4 +1,8 @@
-use Rattle.tj_park.proofs.Prelude.{None, ap, inr, refl, ◌∙◌, ◌∷◌}
+use Rattle.tj_park.proofs.Prelude.{None, ap, inr, subst, refl, ◌∙◌, ◌∷◌}
+use Rattle.tj_cells.specs.CallLogs.{phase_entry}
+use Rattle.tj_words.specs.LawParts.Chains.{parked_phase}
+use Rattle.tj_park.specs.ParkLogs.{MakesJoin}
+use Rattle.tj_park.proofs.Returns.{never_fails, not_ready}
 use Rattle.tj_park.proofs.Returns.{back_cleared, back_slot, back_slots, back_some, goes_back, takes_back}
 use Rattle.tj_park.proofs.ParkedViews.{parked_may, parked_push, parked_lower, parked_left, parked_back_may, parked_back}
 use Rattle.tj_park.proofs.ParkedViews.{parked_slots}
@@ -78,3 +82,38 @@ returns-clause-back_slot g c =
     ∙ ap (λ l. (c.args.t.0, None) ∷ l)
     (parked_slots c.args.laid.now.cells c.requires.may c.join_chain.new.seat.me c.slot_swap.ensures.me
     c.put_phase.ensures.puts join.seat.2 join.looks join.steps join.pushes c.join_chain.result join.added join.closed))
+
+pub returns-then-join_chain-clause-left_log : goal.returns-then-join_chain-clause-left_log
+returns-then-join_chain-clause-left_log g c = let put = c.put_phase.ensures.log in (
+  c.put_phase.new.seat,
+  c.join_chain.new.seat,
+  c.live_down.ensures.log.0,
+  (
+    put.0 ∙ ap (λ l. phase_entry c.args.t.0 (parked_phase c.args.q.0 c.args.way) ∷ l) c.slot_swap.ensures.log.0,
+    put.1 ∙ c.slot_swap.ensures.log.1,
+  ),
+  subst (λ b. MakesJoin c.args.t.0 c.args.q.0 b c.put_phase.new.seat c.join_chain.new.seat) c.if-join_chain.true
+      c.join_chain.ensures.log,
+  c.live_down.ensures.log.1,
+)
+
+pub returns-clause-back_log : goal.returns-clause-back_log
+returns-clause-back_log g c =
+    let put = c.put_phase.ensures.log in
+    let out = c.slot_swap-2.ensures.log in
+    let low = c.lower.ensures.log in
+    let swapped = never_fails c.swap_phase.result _ _ (λ p h. not_ready c.args.q.0 c.args.way h.0)
+    c.swap_phase.ensures.log_swapped c.swap_phase.ensures.found in (
+      c.put_phase.new.seat,
+      c.join_chain.new.seat,
+      c.slot_swap-2.new.seat,
+      low.0,
+      (
+        put.0 ∙ ap (λ l. phase_entry c.args.t.0 (parked_phase c.args.q.0 c.args.way) ∷ l) c.slot_swap.ensures.log.0,
+        put.1 ∙ c.slot_swap.ensures.log.1,
+      ),
+      subst (λ b. MakesJoin c.args.t.0 c.args.q.0 b c.put_phase.new.seat c.join_chain.new.seat)
+          c.if-join_chain.false c.join_chain.ensures.log,
+      (out.0 ∙ swapped.0, out.1 ∙ swapped.1),
+      low.1,
+    )

@@ -1,11 +1,14 @@
 use Rattle.tj_park.proofs.Prelude.{MayWakeTasks, arith, refl, subst, sym, ◌<◌, ◌∙◌}
 use Rattle.tj_park.proofs.WakeLoops.{first_task, may_go_on, rest_now, on_err, waking_at_first, few_woken, fewer_left}
 use Rattle.tj_park.proofs.WakeLoops.{waking_next, woke_some, woke_all}
+use Rattle.std.proofs.Common.{[], ◌∷◌}
+use Rattle.tj_cells.proofs.CallLogs.{grows_by, grows_on}
 use Rattle.tj_park.proofs.wakes.wake.Goals as goal
 
 pub loop-first-init : goal.loop-first-init
 loop-first-init g c = let s = c.shut-first in record {
   seat = s.ensures.seat;
+  log = grows_by c.args.seat.now s.new.seat (_ ∷ []) s.ensures.log;
   limit = refl;
   waking = waking_at_first g.P.Pool.puts c.args.laid.now.cells c.args.p.0 s.result c.args.seat.now.me.0
       s.new.seat.me.0 c.args.pool.now c.requires.may.no_rest s.ensures.again s.ensures.chain;
@@ -47,6 +50,10 @@ returns-in_err-put-clause-memory g c = on_err c.from_residual.result
     c.loop-first.pool c.loop-first.invariant.waking c.in-Task.is c.wake_first-first.ensures.woke
     g.P.Pool.same c.put.new.self c.in_err-put.ensures.err)
 
+pub returns-in_err-put-clause-log : goal.returns-in_err-put-clause-log
+returns-in_err-put-clause-log g c = grows_on c.args.seat.now c.loop-first.seat c.wake_first-first.new.seat
+    c.loop-first.invariant.log c.wake_first-first.ensures.log
+
 pub overflow_add-woken : goal.overflow_add-woken
 overflow_add-woken g c =
     let few = few_woken g.P.Pool.puts c.args.laid.now.cells c.args.p.0 c.loop-first.first c.wake_first-first.result
@@ -63,6 +70,8 @@ loop-first-smaller g c =
 pub loop-first-preserved : goal.loop-first-preserved
 loop-first-preserved g c = let s = c.loop-first.invariant.seat in let n = c.wake_first-first.ensures.seat in record {
   seat = (n.0 ∙ s.0, n.1 ∙ s.1, n.2 ∙ s.2);
+  log = grows_on c.args.seat.now c.loop-first.seat c.wake_first-first.new.seat c.loop-first.invariant.log
+      c.wake_first-first.ensures.log;
   limit = c.put.ensures.limit ∙ c.loop-first.invariant.limit;
   waking = waking_next g.P.Pool.puts c.args.laid.now.cells c.args.p.0 c.loop-first.first c.wake_first-first.result
       c.in-Task.t c.loop-first.woken c.args.seat.now.me.0 c.loop-first.seat.me.0 c.wake_first-first.new.seat.me.0
@@ -78,4 +87,5 @@ returns g c = record {
       c.args.seat.now.me.0 c.loop-first.seat.me.0 c.args.pool.now c.loop-first.pool c.loop-first.invariant.waking
       (λ t e. c.in_default.not-Task t e);
   memory = tt;
+  log = c.loop-first.invariant.log;
 }

@@ -1,5 +1,8 @@
 use Rattle.tj_park.proofs.Prelude.{refl, ◌∙◌}
 use Rattle.tj_park.proofs.WakeSteps.{may_up, may_swap, counted, slots_woke, wakes_first}
+use Rattle.std.proofs.Common.{[], ◌∷◌}
+use Rattle.tj_cells.proofs.CallLogs.{grows_by, grows_on, makes_one}
+use Rattle.tj_park.proofs.ParkLogs.{lowered_grows, swap_grows}
 use Rattle.tj_park.proofs.wakes.wake_first.Goals as goal
 
 pub live_up-requires-clause-may : goal.live_up-requires-clause-may
@@ -41,3 +44,18 @@ returns-clause-woke g c = λ left rests.
     let b = c.see_phase-was.ensures in
     wakes_first c.requires.may.wakes rests a.view a.seat.2 a.first b.view b.seat.2 (b.first refl)
     c.live_up.ensures.me _ _ _ c.swap_phase.ensures.swapped c.swap_phase.ensures.found c.lower.ensures.view
+
+pub returns-clause-log : goal.returns-clause-log
+returns-clause-log g c =
+    let a = c.next_of-next.new.seat in
+    let b = c.see_phase-was.new.seat in
+    let d = c.live_up.new.seat in
+    let e = c.swap_phase.new.seat in
+    grows_on c.args.seat.now e c.lower.new.seat
+    (grows_on c.args.seat.now d e
+    (grows_on c.args.seat.now b d
+    (grows_by c.args.seat.now b (_ ∷ _ ∷ [])
+    (makes_one c.args.seat.now a b (_ ∷ []) _ c.next_of-next.ensures.log c.see_phase-was.ensures.log))
+    (grows_by b d (_ ∷ []) c.live_up.ensures.log.1))
+    (swap_grows c.swap_phase.result _ _ d e c.swap_phase.ensures.log_swapped c.swap_phase.ensures.log_found))
+    (lowered_grows c.see_phase-was.result e c.lower.new.seat c.lower.ensures.log)

@@ -11,4 +11,4 @@ returns g c =
     closed_at_rest (program_of t.places t.awaits t.left t.asks t.then) c.args.told c.args.rest
     c.in_ok-outcome.outcome _ _ _ c.requires
     c.in_ok-outcome.ensures.outcome (c.in_ok-outcome.ensures.alarmed c.requires.meant_cycles)
-    c.in_ok-output.ensures.status c.in_ok-output.ensures.text c.into_closed.ensures.same
+    c.in_ok-output.ensures.status c.in_ok-output.ensures.text c.into_closed_at_end.ensures.same

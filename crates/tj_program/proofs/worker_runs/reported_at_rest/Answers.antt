@@ -11,4 +11,4 @@ returns g c =
     let x = c.in_ok-report.ensures in
     closed_at_rest (program_of t.places t.awaits t.left t.asks t.then) Report c.args.rest x.outcome _ _ _ c.requires
     x.is_outcome (x.alarmed c.requires.meant_cycles) (c.status_of.ensures ∙ ap status_of x.marked_is) x.text_is
-    c.into_closed.ensures.same
+    c.into_closed_at_end.ensures.same

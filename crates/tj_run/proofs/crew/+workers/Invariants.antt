@@ -4,5 +4,5 @@ use Rattle.tj_run.proofs.crew.+workers.Given as goal
 abbrev pub decreases-others : goal.decreases-others
 decreases-others g l = 2 * length l.ends.items + 1
 
-abbrev pub decreases-work_all : goal.decreases-work_all
-decreases-work_all g l = 2 * length l.ends.items
+abbrev pub decreases-work_more : goal.decreases-work_more
+decreases-work_more g l = 2 * length l.ends.items

@@ -1,5 +1,6 @@
 use Rattle.tj_words.proofs.SeatLoads.MomentLaws.{count_above, live_counts, names_are, others_count, owner_is}
 use Rattle.tj_words.proofs.SeatLoads.MomentLaws.{phase_is, stop_stands}
+use Rattle.tj_words.proofs.Calls.LoneSeats.{lone_seats_claim}
 use Rattle.tj_words.proofs.laws.moments.Goals as goal
 
 pub returns-clause-live : goal.returns-clause-live
@@ -22,3 +23,6 @@ returns-clause-stop g c = stop_stands
 
 pub returns-clause-names : goal.returns-clause-names
 returns-clause-names g c = names_are
+
+pub returns-clause-claim : goal.returns-clause-claim
+returns-clause-claim g c = lone_seats_claim

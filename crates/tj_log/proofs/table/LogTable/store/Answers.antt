@@ -8,4 +8,4 @@ pub store-requires : goal.store-requires
 store-requires g c =
     let r = subst₂ (λ t s. Asks g.P.TableRule.holds g.P.LogRule.tells g.M.Play.then Store c.args.new 0 c.args.word t s)
     (sym c.self.view_is) (sym c.seat.view_is) c.requires in
-    (r.0, r.1, steps_allowed _ Store c.args.new 0 _ _ _ _ g.M.Play.then r.2 r.3)
+    (r.0, r.1, steps_allowed _ Store c.args.new 0 _ _ _ _ g.M.Play.then r.2 r.3 c.seat.inside.same_slots)

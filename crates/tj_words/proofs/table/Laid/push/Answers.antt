@@ -1,5 +1,6 @@
-use Rattle.tj_words.proofs.Prelude.{ap, arith, either, eqb, head_word, push_exchange, refl, sym, ◌+◌, ◌∙◌}
-use Rattle.tj_words.specs.Calls.ChainSteps.{pushed}
+use Rattle.tj_words.proofs.Prelude.{ap, arith, either, eqb, head_in, head_word, push_exchange, refl, subst, sym}
+use Rattle.tj_words.proofs.Prelude.{◌+◌, ◌∙◌, ◌≡◌}
+use Rattle.tj_words.specs.Calls.ChainSteps.{HasPushBehind, pushed}
 use Rattle.tj_words.specs.Inner.IndexWords.{cell_at}
 use Rattle.tj_words.proofs.Lemmas.{moment_allowed, so_too}
 use Rattle.tj_words.proofs.Calls.PushRuns.{chain_found, finds_longer, found_other, word_back}
@@ -24,7 +25,14 @@ compare_exchange-requires g c = let a = c.args in let e = a.self.now.key_cells i
           (is_open a.behind a.self.now.cells (omega (arith, a.self.now.few)) c.requires.small)),
       told_step _ (call.pushes a.p.0) Exchange c.word.result (a.t.0 + 1) refl c.head_at.ensures.word
           (omega (arith, e, a.self.now.some, c.requires.cell, c.head_at.ensures.word))
-          tt
+          (let back = word_back a.behind a.self.now.cells (omega (arith, a.self.now.few)) c.requires.small in
+          let asked : head_in c.word.result ≡ a.behind = ap head_in c.word.ensures.word ∙ back in (
+            a.t.0,
+            omega arith,
+            omega (arith, e, c.requires.task),
+            subst (λ h. HasPushBehind a.t.0 a.p.0 h a.seat.now.me.0) (sym asked) c.requires.push,
+            λ z. is_open a.behind a.self.now.cells (omega (arith, a.self.now.few)) c.requires.small (sym asked ∙ z),
+          ))
           (λ s r at m t. (
             λ k. exchange_hit _ c.word.result (a.t.0 + 1) k,
             λ k. exchange_missed _ c.word.result (a.t.0 + 1) k,

@@ -18,7 +18,7 @@ store-requires g c = let a = c.args in let e = a.self.now.key_cells in (
       (omega (arith, e, c.requires.small, c.word.ensures.word)) c.requires.push,
   told_step _ (call.puts_next a.t.0) Store c.word.result 0 refl c.next_at.ensures.word
       (omega (arith, e, a.self.now.some, c.requires.cell, c.next_at.ensures.word))
-      tt
+      (omega (arith, e, c.requires.small, c.word.ensures.word), c.requires.push)
       (λ s r at m t. (
         refl,
         its_cell (λ cells. next_store) c.word.result 0 {n = word s.words c.next_at.result} a.self.now.slots

@@ -22,7 +22,7 @@ load-requires g c = let a = c.args in let b = g.B.Body in
       told_step _ (call.sees_once a.c.0 a.f) Load 0 0 refl c.once_at.ensures.word
           (let h = once_within a.c.0 a.self.now.cells a.f c.requires.cell in
           omega (arith, e, c.once_at.ensures.word))
-          tt
+          c.requires.may
           (λ s r at m t. (
             refl,
             subst (λ f. once_load program a.self.now.table.shared.key.cells f a.c.0 (step

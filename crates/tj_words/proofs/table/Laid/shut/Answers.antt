@@ -18,7 +18,7 @@ swap-found-requires g c = let a = c.args in let e = a.self.now.key_cells in (
       c.head_at.ensures.cell c.word.ensures.word c.requires.entry c.requires.rest c.requires.backed,
   told_step _ (call.shuts a.p.0) Swap c.word.result 0 refl c.head_at.ensures.word
       (omega (arith, e, a.self.now.some, c.requires.cell, c.head_at.ensures.word))
-      tt
+      (c.requires.entry, c.requires.rest, c.requires.backed)
       (λ s r at m t. (
         c.word.ensures.word,
         its_cell shut_swap c.word.result 0 (a.self.now.slots ∙ sym e) c.head_at.ensures.cell

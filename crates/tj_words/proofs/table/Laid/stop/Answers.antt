@@ -11,6 +11,6 @@ store-requires g c = let a = c.args in (
   omega (arith, a.self.now.words, a.self.now.some),
   stop_allowed _ _ _ _ _ a.w c.requires.some c.requires.known c.requires.refused,
   told_step _ (call.stops) Store a.w 0 refl refl (omega (arith, a.self.now.key_cells, a.self.now.some))
-      tt
+      (c.requires.some, c.requires.known, c.requires.refused)
       (λ s r at m t. (refl, t)),
 )

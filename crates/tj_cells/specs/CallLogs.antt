@@ -1,0 +1,90 @@
+-- What a call of several steps leaves in the log of its seat: these steps, the last of them first.
+use Rattle.std.specs.Prelude.{◌≡◌, ℕ, suc, ◌≤◌, List, [], ◌∷◌, ◌++◌, length, Option, Some, None}
+use Rattle.tj_base.specs.declared.cell.Sort.{Sort}
+use Rattle.tj_base.specs.declared.cell.Sort.TheVariants as sort
+use Rattle.tj_log.specs.Shown.{SeatShown}
+use Rattle.tj_log.specs.declared.entry.Entry.{Entry}
+use Rattle.tj_words.specs.CallLaws.StepCalls as call
+use Rattle.tj_words.specs.CallLaws.StepLogs.{entry_of}
+use Rattle.tj_words.specs.SeatViews.KnowsMore.{IsTailOf}
+use Rattle.tj_words.specs.Words.Owners.{owner_word}
+use Rattle.tj_words.specs.Words.Phases.{phase_word}
+use Rattle.tj_words.specs.Words.Values.{fill_in, tag_word}
+use Rattle.tj_words.specs.declared.offsets.Once.{Once}
+use Rattle.tj_words.specs.declared.offsets.Once.TheVariants as once
+use Rattle.tj_words.specs.declared.phase.Phase.{Phase}
+use Rattle.tj_words.specs.declared.phase.Phase.TheVariants as phase
+use Rattle.tj_words.specs.declared.record.Fill.{Fill}
+use Rattle.tj_words.specs.declared.record.Rec.{Rec}
+use Rattle.tj_words.specs.declared.view.View.{View}
+
+-- a seat of the table, as a contract sees it
+abbrev pub Seat : Type 0 → Type 0
+Seat B = SeatShown (Option (Rec B)) (View B)
+
+-- the draw of a cell of this sort by task t, where COUNT was n
+abbrev pub draw_entry : ℕ → Sort → ℕ → Entry
+draw_entry t o n = entry_of (call.draws t o) 1 0 n
+
+-- the store of n in a word of cell c that is written once
+abbrev pub once_entry : ℕ → Once → ℕ → Entry
+once_entry c f n = entry_of (call.puts_once c f) n 0 n
+
+-- the store of an owner of cell c, or of nobody
+abbrev pub owner_entry : ℕ → Option ℕ → Entry
+owner_entry c o = entry_of (call.puts_owner c) (owner_word o) 0 (owner_word o)
+
+-- the store of this phase of cell c
+abbrev pub phase_entry : ℕ → Phase → Entry
+phase_entry c p = entry_of (call.puts_phase c) (phase_word p) 0 (phase_word p)
+
+-- a load of a word that is written once
+abbrev pub IsOnceLoad : Entry → Type 0
+IsOnceLoad e = (c n : ℕ) × (f : Once) × (e ≡ entry_of (call.sees_once c f) 0 0 n)
+
+-- each of these steps is one
+abbrev pub OnlyLoad : List Entry → Type 0
+OnlyLoad [] = Unit {0}
+OnlyLoad (e ∷ es) = IsOnceLoad e × OnlyLoad es
+
+-- these steps are so many loads of words that are written once
+abbrev pub AreLoads : ℕ → List Entry → Type 0
+AreLoads n es = (length es ≡ n) × OnlyLoad es
+
+-- the draw of cell c for task t, and the stores of PARENT and KID
+abbrev pub drawn_entries : ℕ → ℕ → Sort → ℕ → List Entry
+drawn_entries t kid o c = once_entry c once.Kid kid ∷ once_entry c once.Parent (suc t) ∷ draw_entry t o c ∷ []
+
+module _ {B : Type 0} where
+  -- the seat has made these steps more, the last of them first, and no other
+  abbrev pub Makes : List Entry → Seat B → Seat B → Type 0
+  Makes es old new = (new.log ≡ es ++ old.log) × (new.took ≡ old.took)
+
+  -- the seat has made some steps more, if any, and has taken in no other seat
+  abbrev pub Grows : Seat B → Seat B → Type 0
+  Grows old new = IsTailOf old.log new.log × (new.took ≡ old.took)
+
+  -- the one step is a draw that found COUNT at the table's number of cells, or above
+  abbrev pub MakesRefusedDraw : ℕ → ℕ → Sort → Seat B → Seat B → Type 0
+  MakesRefusedDraw cells t o old new = (n : ℕ) × (cells ≤ n) × Makes (draw_entry t o n ∷ []) old new
+
+  -- a promise was made: a cell was drawn, and PARENT, KID, PHASE and OWN were stored
+  abbrev pub MakesPromise : ℕ → ℕ → ℕ → Seat B → Seat B → Type 0
+  MakesPromise t kid c old new = Makes (owner_entry c (Some t) ∷ phase_entry c phase.Promise
+      ∷ drawn_entries t kid sort.Promise c) old new
+
+  -- DEPTH and JUMP of a cell were stored, after twelve loads of words that are written once
+  abbrev pub MakesNode : ℕ → Seat B → Seat B → Type 0
+  MakesNode c old new = (depth jump : ℕ) × (looks : List Entry) × AreLoads 12 looks
+      × Makes (once_entry c once.Jump jump ∷ once_entry c once.Depth depth ∷ looks) old new
+
+  -- a child was made: a cell was drawn, PARENT and KID were stored, words that are written once were loaded, and DEPTH,
+  -- JUMP and OWN were stored
+  abbrev pub MakesTask : ℕ → ℕ → ℕ → Seat B → Seat B → Type 0
+  MakesTask t kid c old new = (drawn written : Seat B) × Makes (drawn_entries t kid sort.Task c) old drawn
+      × MakesNode c drawn written × Makes (owner_entry c (Some c) ∷ []) written new
+
+  -- a cell was closed: OWN was stored as nobody, and then BITS and TAG as what stands for this
+  abbrev pub MakesClosed : ℕ → Option Fill → Seat B → Seat B → Type 0
+  MakesClosed p o old new = (bits : ℕ) × (fill_in (tag_word o) bits ≡ o)
+      × Makes (once_entry p once.Tag (tag_word o) ∷ once_entry p once.Bits bits ∷ owner_entry p None ∷ []) old new

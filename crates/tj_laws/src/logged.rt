@@ -1,0 +1,15 @@
+//! What the log of a seat says of PHASE and of records, in the run that the table has.
+ghost use Rattle.tj_laws.specs.LoggedPhases.{LoggedPhasesStand, RecordsAreAsPut};
+
+/// A store of Ended, Alarmed or Promise that a seat has logged stands. The record that a claim takes,
+/// or a park that gives the task back, is the one that was put home last.
+pub fn logged_phases<B>()
+    // Where the log of a seat has the store of Ended, Alarmed or Promise for a task, or a log that
+    // it has taken in has it, PHASE of the task is this by what stands. So after `tj_park::finish`,
+    // by its `log_ended`, PHASE of the task is Ended wherever a seat has that log.
+    ensures stand { LoggedPhasesStand B }
+    // A step of the run that exchanged a phase of a task, which it found, for Running, as that of
+    // `tj_park::claim` and of `park` that answers `Back`, took a record from the slot of the task:
+    // the one that the last step on this slot put there, or the root's first one.
+    ensures records { RecordsAreAsPut B }
+{}
