@@ -24,8 +24,8 @@ TOLD = (
     ("a promise owed", "", OWED,
      "owed: the promise 0.1 (made at 2:11) was never set: 0 (task main) owned it and ended at 3:3\n"),
     ("the same as a graph", "--dot --steps 7", OWED,
-     'digraph tasks {\n  node [shape=box];\n  "0" [label="0\\nmain\\n3:3"];\n  "0.1" [shape=ellipse];\n'
-     '  "0.1" -> "0" [style=dotted];\n}\n'),
+     'digraph tasks {\n  node [shape=box];\n  "0" [label="0\\nmain\\n3:3"];\n'
+     '  "0.1" [shape=ellipse, style=filled, fillcolor=khaki];\n  "0.1" -> "0" [style=dotted];\n}\n'),
     ("a join against the order by the strict rule", "--strict", ANCESTOR,
      "failed: 0.1 (task kid, forked at 1:15) at 2:23: order 0\n"),
     ("the same without it", "", ANCESTOR, "nothing is wrong: 2 tasks ended, each promise was set\n"),

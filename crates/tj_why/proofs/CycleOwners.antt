@@ -1,5 +1,5 @@
 -- In a cycle that is told each owner is the next member.
-use Rattle.std.proofs.Common.{◌≡◌, ℕ, Bool, true, false, cond, List, [], ◌∷◌, ◌++◌, map, Option, Some, None}
+use Rattle.std.proofs.Common.{◌≡◌, ℕ, Bool, true, false, cond, List, [], ◌∷◌, ◌++◌, map, Option, Some}
 use Rattle.std.proofs.Common.{refl, sym, ap, subst, ◌∙◌, inl, inr, ◌⊎◌, append-nil}
 use Rattle.std.specs.Prelude.{drop, take}
 use Rattle.std.specs.Option.{option_map}
@@ -7,17 +7,16 @@ use Rattle.std.specs.List.{find, flat_map}
 use Rattle.tj_base.specs.ForkOrder.{Name}
 use Rattle.tj_base.specs.Cycles as graph
 use Rattle.tj_base.specs.declared.cause.Cause.TheVariants as cause
-use Rattle.tj_body.specs.Laws.{AreDistinct}
 use Rattle.tj_body.specs.Names.{has}
 use Rattle.tj_body.specs.Points.{IsIn}
 use Rattle.tj_body.specs.Rounds.{meaning}
 use Rattle.tj_body.specs.SeenAs.{IsSeenAs, point_as}
 use Rattle.tj_body.specs.declared.point.Point.{Point}
 use Rattle.tj_body.proofs.Counts.{has_of_times, times_of_in}
-use Rattle.tj_body.proofs.Lists.{from_flat_map, in_flat_map, in_map, to_map}
+use Rattle.tj_body.proofs.Lists.{in_flat_map, in_map, to_map}
 use Rattle.tj_body.proofs.SeenAs.{meaning_seen}
 use Rattle.tj_eval.specs.Stands.{PlacedState}
-use Rattle.tj_mean.specs.Outcomes.{AreTold, IsCycle, IsOutcome, Leads, Owns, Waits, owned_by, owned_with, stopped_of}
+use Rattle.tj_mean.specs.Outcomes.{AreTold, IsCycle, IsOutcome, Leads, Owns, Waits, owned_with, stopped_of}
 use Rattle.tj_mean.specs.declared.outcome.Ending.{Ending}
 use Rattle.tj_mean.specs.declared.outcome.Ending.TheVariants as ending
 use Rattle.tj_mean.specs.declared.outcome.Link.{Link}
@@ -25,7 +24,6 @@ use Rattle.tj_mean.specs.declared.outcome.Outcome.{Outcome}
 use Rattle.tj_mean.specs.declared.stopped.Stopped.{Stopped}
 use Rattle.tj_mean.proofs.Lists.Elements.{in_of_all, in_of_has, some_is}
 use Rattle.tj_mean.proofs.Lists.KeyedLists.{one_of_key}
-use Rattle.tj_mean.proofs.Lists.Maps.{map_map}
 use Rattle.tj_mean.proofs.Lists.NameOrder.{in_unpermuted}
 use Rattle.tj_mean.proofs.Outcomes.ToldOutcomes.{meaning_apart, told_of}
 use Rattle.tj_trace.specs.Inner.LogLaws.{are_seen}
@@ -45,7 +43,7 @@ use Rattle.tj_why.specs.Searches.{line_of, owner_of}
 use Rattle.tj_why.specs.declared.finding.Wait.{Wait}
 
 -- a list that has an element which passes has a first one
-found : {A : Type 0} (p : A → Bool) (xs : List A) (x : A) → IsIn x xs → p x ≡ true
+pub found : {A : Type 0} (p : A → Bool) (xs : List A) (x : A) → IsIn x xs → p x ≡ true
     → (y : A) × (find p xs ≡ Some y) × IsIn y xs × (p y ≡ true)
 found p [] x i e = absurd i
 found {A} p (y ∷ ys) x i e = by (p y) refl i (λ j. found p ys x j e) where

@@ -1,5 +1,5 @@
 -- No task is a member of two cycles of one wait graph, nor twice of one.
-use Rattle.std.proofs.Common.{◌≡◌, ℕ, zero, suc, ◌+◌, ◌-◌, ◌<◌, ◌≤◌, Bool, true, false, List, [], ◌∷◌, map, length}
+use Rattle.std.proofs.Common.{◌≡◌, ℕ, zero, suc, ◌+◌, ◌-◌, ◌<◌, ◌≤◌, true, false, List, [], ◌∷◌, map, length}
 use Rattle.std.proofs.Common.{get_or}
 use Rattle.std.proofs.Common.{refl, sym, ap, subst, ◌∙◌, arith, inl, inr}
 use Rattle.std.specs.List.{AllByRecursion, IsDistinct, flat_map}
@@ -22,7 +22,7 @@ use Rattle.tj_body.proofs.Lists.{from_flat_map, in_map, to_map}
 use Rattle.tj_mean.proofs.Lists.Elements.{in_contains, in_of_all}
 use Rattle.tj_mean.proofs.Lists.NameOrder.{same_of_equal}
 use Rattle.tj_mean.proofs.Outcomes.Indexes.{names_lead, same_names}
-use Rattle.tj_mean.specs.Outcomes.{AreApart, AreCycles, Ascend, IsCycle, Leads, first_task}
+use Rattle.tj_mean.specs.Outcomes.{AreApart, Ascend, IsCycle, Leads, first_task}
 use Rattle.tj_mean.specs.declared.outcome.Link.{Link}
 use Rattle.tj_mean.specs.declared.stopped.Stopped.{Stopped}
 

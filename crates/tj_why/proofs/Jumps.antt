@@ -1,6 +1,6 @@
 -- Steps back by the numbers of lines: the first, and twice as many.
 use Rattle.std.proofs.Common.{◌≡◌, ℕ, zero, suc, ◌<◌, ◌+◌, ◌-◌, List, [], ◌∷◌, ◌++◌, Option, Some, None, length, get_or}
-use Rattle.std.proofs.Common.{map, refl, sym, ap, subst, ◌∙◌, arith, ◌≤◌}
+use Rattle.std.proofs.Common.{map, refl, sym, ap, subst, ◌∙◌, arith}
 use Rattle.std.specs.Prelude.{slice_get, option_and_then, unwrap_or}
 use Rattle.std.specs.Option.{option_map}
 use Rattle.std.proofs.lemmas.List.{get_or-map, length-append, length-map}
@@ -9,7 +9,7 @@ use native.Mathlib.Decide.{dec_lt}
 use mathlib.Core.Logic.{dite}
 use Rattle.tj_base.specs.ForkOrder.{Name}
 use Rattle.tj_trace.specs.declared.line.TraceLine.{TraceLine}
-use Rattle.tj_why.specs.Echoes.{back, back_by, breaker, most_doublings, origin}
+use Rattle.tj_why.specs.Echoes.{back, back_by, breaker, most_doublings}
 use Rattle.tj_why.specs.Inner.Jumps.{AreJumps, jump}
 use Rattle.tj_why.specs.Inner.Numbers.{IsNumberOf}
 
@@ -95,8 +95,8 @@ doubled_more lines k m js more is next old =
           ap (slice_get lines) (get_or-map (jump js) js n n n (omega arith)) ∙ second;
     }))
 
--- as often as there can be tasks
-pub often : (left : ℕ) → left ≡ 0 → 20 - left ≡ most_doublings
+-- as often as there can be rounds
+pub often : (left : ℕ) → left ≡ 0 → 21 - left ≡ most_doublings
 unfolding most_doublings
 often left none = omega arith
 

@@ -1,12 +1,11 @@
 -- What a task that is told to wait waits for has an owner, and leads to a cycle that is told.
-use Rattle.std.proofs.Common.{◌≡◌, ℕ, ◌<◌, Bool, true, false, List, [], ◌∷◌, ◌++◌, map, length}
-use Rattle.std.proofs.Common.{get_or, cond, Option, Some, None}
-use Rattle.std.proofs.Common.{refl, sym, ap, subst, ◌∙◌, inl, inr, ◌⊎◌}
+use Rattle.std.proofs.Common.{◌≡◌, ℕ, Bool, true, List, [], ◌∷◌, ◌++◌, map, length}
+use Rattle.std.proofs.Common.{get_or, Option, Some, None}
+use Rattle.std.proofs.Common.{refl, sym, ap, subst, ◌∙◌, inl, inr}
 use Rattle.std.specs.Option.{option_map}
 use Rattle.std.specs.List.{AllByRecursion, flat_map}
 use Rattle.tj_base.specs.ForkOrder.{Name}
 use Rattle.tj_base.specs.Cycles as graph
-use Rattle.tj_base.specs.declared.cause.Cause.TheVariants as cause
 use Rattle.tj_base.proofs.CycleLists.{cycles_return, returns_are_cycles}
 use Rattle.tj_base.proofs.CyclesOn.{on_cycle_moves}
 use Rattle.tj_base.proofs.Ways.{cycle_leads}
@@ -19,11 +18,11 @@ use Rattle.tj_body.specs.declared.point.Close.TheVariants as close
 use Rattle.tj_body.specs.declared.point.Point.{Point}
 use Rattle.tj_body.specs.declared.point.PointStage.{PointStage}
 use Rattle.tj_body.specs.declared.point.PointStage.TheVariants as stage
-use Rattle.tj_body.proofs.Lists.{from_flat_map, in_either, in_flat_map, in_map, to_map}
+use Rattle.tj_body.proofs.Lists.{from_flat_map, in_flat_map, to_map}
 use Rattle.tj_body.proofs.NameLaws.{ordered_has_same, ordered_is_one}
 use Rattle.tj_eval.specs.Statements.{TaskState}
 use Rattle.tj_eval.specs.Stands.{PlacedState}
-use Rattle.tj_mean.specs.Outcomes.{AreApart, IsCycle, IsOutcome, Leads, Owns, Waits, ending_of, first_task}
+use Rattle.tj_mean.specs.Outcomes.{AreApart, IsCycle, IsOutcome, Leads, Owns, Waits, ending_of}
 use Rattle.tj_mean.specs.declared.outcome.Ending.{Ending}
 use Rattle.tj_mean.specs.declared.outcome.Ending.TheVariants as ending
 use Rattle.tj_mean.specs.declared.outcome.Link.{Link}
@@ -38,10 +37,12 @@ use Rattle.tj_trace.specs.Traces.{AreTraced}
 use Rattle.tj_trace.specs.declared.line.TraceLine.{TraceLine}
 use Rattle.tj_why.proofs.CycleOwners.{cycles_told, members_told, owner_is}
 use Rattle.tj_why.proofs.CyclesApart.{shares}
+use Rattle.tj_why.proofs.Found.{IsOf, a_cycle, a_debt, a_failure, a_wait, an_echo, is_of}
 use Rattle.tj_why.proofs.ToldOnce.{link_found, waits_from}
 use Rattle.tj_why.specs.Explanations.{LeadsToToldCycle, cycles_in, link_told, members_of, told_waits_in, waits_in}
 use Rattle.tj_why.specs.Findings.{behind, behind_with, echo, echo_with, failed, failed_with, findings_of, is_member}
 use Rattle.tj_why.specs.Findings.{is_owing, link_wait, owed, told_cycle, told_debt, wait_by}
+use Rattle.tj_why.specs.Findings as findings
 use Rattle.tj_why.specs.Searches.{line_of, owner_of}
 use Rattle.tj_why.specs.declared.finding.Finding.{Finding}
 use Rattle.tj_why.specs.declared.finding.Finding.TheVariants as finding
@@ -141,14 +142,6 @@ module _ (lines : List TraceLine) where
   abbrev TellsOwner : Wait → Type 0
   TellsOwner w = w.owner ≡ option_map (λ (l : TraceLine). l.line.name) (owner_of lines w.cell.name)
 
-  of_behind : (l : TraceLine) (b : Bool) (e : Ending) (w : Wait)
-      → IsIn w (flat_map told_waits_in (behind_with lines b l e)) → TellsOwner w
-  of_behind l b (ending.Done v) w i = absurd i
-  of_behind l b (ending.Failed c) w i = absurd i
-  of_behind l true (ending.Waits q) w i = absurd i
-  of_behind l false (ending.Waits q) w (inl e) = subst TellsOwner (sym e) refl
-  of_behind l false (ending.Waits q) w (inr i) = absurd i
-
   of_links : (ks : List Link) (w : Wait) → IsIn w (flat_map (link_wait lines) ks) → TellsOwner w
   of_links ks w i = let k = from_flat_map (link_wait lines) w ks i in by k.0.cell (line_of lines k.0.task) k.2 where
     by : (q : Name) (o : Option TraceLine) → IsIn w (wait_by lines q o) → TellsOwner w
@@ -156,79 +149,22 @@ module _ (lines : List TraceLine) where
     by q (Some l) (inl e) = subst TellsOwner (sym e) refl
     by q (Some l) (inr i) = absurd i
 
-  no_failed : (l : TraceLine) (e : Ending) (w : Wait) → IsIn w (flat_map told_waits_in (failed_with lines l e)) → ⊥
-  no_failed l (ending.Done v) w i = i
-  no_failed l (ending.Failed cause.Arith) w i = i
-  no_failed l (ending.Failed cause.Kind) w i = i
-  no_failed l (ending.Failed cause.Steps) w i = i
-  no_failed l (ending.Failed (cause.Owner q)) w i = i
-  no_failed l (ending.Failed (cause.Broken q)) w i = i
-  no_failed l (ending.Failed (cause.Order q)) w i = i
-  no_failed l (ending.Waits q) w i = i
-
-  no_echo : (l : TraceLine) (e : Ending) (w : Wait) → IsIn w (flat_map told_waits_in (echo_with lines l e)) → ⊥
-  no_echo l (ending.Done v) w i = i
-  no_echo l (ending.Failed cause.Arith) w i = i
-  no_echo l (ending.Failed cause.Kind) w i = i
-  no_echo l (ending.Failed cause.Steps) w i = i
-  no_echo l (ending.Failed (cause.Owner q)) w i = i
-  no_echo l (ending.Failed (cause.Broken q)) w i = i
-  no_echo l (ending.Failed (cause.Order q)) w i = i
-  no_echo l (ending.Waits q) w i = i
-
-  no_debt : (l : TraceLine) (b : Bool) (qs : List Name) (w : Wait)
-      → IsIn w (flat_map told_waits_in (cond b (map (told_debt lines l) qs) [])) → ⊥
-  no_debt l false qs w i = i
-  no_debt l true [] w i = i
-  no_debt l true (q ∷ qs) w i = no_debt l true qs w i
-
-  module _ (cycles : List (List Link)) (w : Wait) (f : Finding) (j : IsIn w (told_waits_in f)) where
-    here : (fs : List Finding) → IsIn f fs → IsIn w (flat_map told_waits_in fs)
-    here fs i = in_flat_map told_waits_in f w fs i j
-
-    first : IsIn f (map (told_cycle lines) cycles) ⊎ IsIn f (flat_map (behind lines cycles) lines) → TellsOwner w
-    first (inl k) =
-        let c = in_map (told_cycle lines) f cycles k in
-        of_links c.0 w (subst (λ h. IsIn w (told_waits_in h)) c.2 j)
-    first (inr k) =
-        let l = from_flat_map (behind lines cycles) f lines k in
-        of_behind l.0 (is_member cycles l.0.line.name) l.0.line.ending w (here (behind lines cycles l.0) l.2)
-
-    third : IsIn f (map (told_cycle lines) cycles ++ flat_map (behind lines cycles) lines)
-        ⊎ IsIn f (flat_map (failed lines) lines) → TellsOwner w
-    third (inl k) = first (in_either f _ (flat_map (behind lines cycles) lines) k)
-    third (inr k) =
-        let l = from_flat_map (failed lines) f lines k in
-        absurd (no_failed l.0 l.0.line.ending w (here (failed lines l.0) l.2))
-
-    fourth : IsIn f (map (told_cycle lines) cycles ++ flat_map (behind lines cycles) lines
-        ++ flat_map (failed lines) lines) ⊎ IsIn f (flat_map (owed lines true) lines) → TellsOwner w
-    fourth (inl k) = third (in_either f _ (flat_map (failed lines) lines) k)
-    fourth (inr k) =
-        let l = from_flat_map (owed lines true) f lines k in
-        absurd (no_debt l.0 (is_owing true l.0.line.ending) l.0.line.owes w (here (owed lines true l.0) l.2))
-
-    fifth : IsIn f (map (told_cycle lines) cycles ++ flat_map (behind lines cycles) lines
-        ++ flat_map (failed lines) lines ++ flat_map (owed lines true) lines)
-        ⊎ IsIn f (flat_map (owed lines false) lines) → TellsOwner w
-    fifth (inl k) = fourth (in_either f _ (flat_map (owed lines true) lines) k)
-    fifth (inr k) =
-        let l = from_flat_map (owed lines false) f lines k in
-        absurd (no_debt l.0 (is_owing false l.0.line.ending) l.0.line.owes w (here (owed lines false l.0) l.2))
-
-    sixth : IsIn f (map (told_cycle lines) cycles ++ flat_map (behind lines cycles) lines
-        ++ flat_map (failed lines) lines ++ flat_map (owed lines true) lines ++ flat_map (owed lines false) lines)
-        ⊎ IsIn f (flat_map (echo lines) lines) → TellsOwner w
-    sixth (inl k) = fifth (in_either f _ (flat_map (owed lines false) lines) k)
-    sixth (inr k) =
-        let l = from_flat_map (echo lines) f lines k in
-        absurd (no_echo l.0 l.0.line.ending w (here (echo lines l.0) l.2))
+  of_finding : (cycles : List (List Link)) (w : Wait) (f : Finding) → IsOf lines cycles f → IsIn w (told_waits_in f)
+      → TellsOwner w
+  of_finding cycles w f (a_cycle c j e) i = of_links c w (subst (λ h. IsIn w (told_waits_in h)) e i)
+  of_finding cycles w f (a_wait l there q is e) i = by (subst (λ h. IsIn w (told_waits_in h)) e i) where
+    by : IsIn w (findings.told_wait lines l q ∷ []) → TellsOwner w
+    by (inl same) = subst TellsOwner (sym same) refl
+    by (inr j) = absurd j
+  of_finding cycles w f (a_failure l there c is none e) i = absurd (subst (λ h. IsIn w (told_waits_in h)) e i)
+  of_finding cycles w f (a_debt l there q owed e) i = absurd (subst (λ h. IsIn w (told_waits_in h)) e i)
+  of_finding cycles w f (an_echo l there q is e) i = absurd (subst (λ h. IsIn w (told_waits_in h)) e i)
 
   tells_owner : (cycles : List (List Link)) (w : Wait) → IsIn w (flat_map told_waits_in (findings_of lines cycles))
       → TellsOwner w
   tells_owner cycles w i =
       let f = from_flat_map told_waits_in w (findings_of lines cycles) i in
-      sixth cycles w f.0 f.2 (in_either f.0 _ (flat_map (echo lines) lines) f.1)
+      of_finding cycles w f.0 (is_of lines cycles f.0 f.1) f.2
 
 module _ (strict : Bool) (root : PlacedState) (N : ℕ) (lines : List TraceLine) (o : Outcome)
     (owners : points.OwnersWait (script_program strict root))
@@ -275,7 +211,8 @@ module _ (strict : Bool) (root : PlacedState) (N : ℕ) (lines : List TraceLine)
       (p.0, at.0, p.1, p.2, at.1)
 
   pub led : (w : Wait) → IsIn w (flat_map told_waits_in (findings_of lines o.cycles))
-      → LeadsToToldCycle ps (findings_of lines o.cycles) w.task.name × ((y : Name) × (w.owner ≡ Some y))
+      → LeadsToToldCycle ps (findings_of lines o.cycles) w.task.name
+      × ((y : Name) × (w.owner ≡ Some y) × points.WaitsFor ps w.task.name y)
   led w i =
       let waits = waits_there w i in
       let way = lead N room w.task.name w.cell.name waits in
@@ -292,5 +229,7 @@ module _ (strict : Bool) (root : PlacedState) (N : ℕ) (lines : List TraceLine)
       link_found strict root N lines o traced out k (in_flat_map (λ (c : List Link). c) c.0 k o.cycles there j))))
       c.2 in
       let owner : w.owner ≡ Some own.0 = tells_owner lines o.cycles w i
-      ∙ owner_is strict root N lines o traced out own.0 w.cell.name (own_told own.0 w.cell.name own.2) in
-      ((way.0, way.1, way.2, (flat_map (link_wait lines) c.0, told, member)), (own.0, owner))
+      ∙ owner_is strict root N lines o traced out own.0 w.cell.name (own_told own.0 w.cell.name own.2) in (
+        (way.0, way.1, way.2, (flat_map (link_wait lines) c.0, told, member)),
+        (own.0, owner, (w.cell.name, waits, own.2)),
+      )

@@ -17,3 +17,10 @@ pub mod Placed
 pub mod CycleOwners
 pub mod LedToCycles
 pub mod DebtsOnce
+pub mod BrokenCells
+pub mod Found
+pub mod Origins
+pub mod ToldFindings
+pub mod NamedCells
+pub mod CellsTold
+pub mod TasksTold

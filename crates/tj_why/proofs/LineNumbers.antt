@@ -1,6 +1,6 @@
 -- The number of a line among those whose names ascend, as a search finds it, and the lines of owners, entered one by
 -- one.
-use Rattle.std.proofs.Common.{◌≡◌, ℕ, zero, suc, ◌<◌, ◌≤◌, ◌+◌, List, [], ◌∷◌, Option, Some, None, length, get_or, cond}
+use Rattle.std.proofs.Common.{◌≡◌, ℕ, zero, suc, ◌<◌, ◌≤◌, List, [], ◌∷◌, Option, Some, None, length, get_or, cond}
 use Rattle.std.proofs.Common.{Bool, true, false, Less, Equal, Greater, Ordering, refl, sym, ap, subst, ◌∙◌, arith}
 use Rattle.std.specs.Prelude.{drop, slice_get, option_and_then}
 use Rattle.std.proofs.lemmas.List.{drop_all}

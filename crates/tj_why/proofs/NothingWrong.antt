@@ -22,7 +22,7 @@ use Rattle.tj_trace.specs.declared.line.TraceLine.{TraceLine}
 use Rattle.tj_why.proofs.ToldOnce.{debts_to, failures_to, same_lines, to_point, waits_to}
 use Rattle.tj_why.specs.Explanations.{debts_in, failures_in, waits_in}
 use Rattle.tj_why.specs.Findings.{behind, behind_with, echo, echo_with, failed, failed_with, findings_of, is_member}
-use Rattle.tj_why.specs.Findings.{is_owing, owed, told_cycle, told_debt}
+use Rattle.tj_why.specs.Findings.{is_owing, owed, told_debt}
 use Rattle.tj_why.specs.declared.finding.Finding.{Finding}
 
 -- lists made of lines that give nothing
@@ -32,7 +32,7 @@ none_in g [] none = refl
 none_in g (l ∷ ls) none =
     ap (λ z. z ++ flat_map g ls) (none l (inl refl)) ∙ none_in g ls (λ m i. none m (inr i))
 
-neither : (a b : Bool) → (a || b) ≡ false → (a ≡ false) × (b ≡ false)
+pub neither : (a b : Bool) → (a || b) ≡ false → (a ≡ false) × (b ≡ false)
 neither true b e = absurd (cc)
 neither false b e = (refl, e)
 
@@ -41,7 +41,7 @@ one_of true b e = inl refl
 one_of false b e = inr e
 
 -- where none passes, each fails
-each_fails : (ls : List TaskLine) → list_any is_troubled ls ≡ false → (l : TaskLine) → IsIn l ls
+pub each_fails : (ls : List TaskLine) → list_any is_troubled ls ≡ false → (l : TaskLine) → IsIn l ls
     → is_troubled l ≡ false
 each_fails [] e l i = absurd i
 each_fails (m ∷ ms) e l (inl same) = ap is_troubled same ∙ (neither (is_troubled m) (list_any is_troubled ms) e).0
@@ -58,7 +58,7 @@ one_passes (m ∷ ms) e = by (one_of (is_troubled m) (list_any is_troubled ms) e
   by (inl h) rest = (m, inl refl, h)
   by (inr h) rest = let l = rest h in (l.0, inr l.1, l.2)
 
-empty : {A : Type 0} (xs : List A) → not (is_nil xs) ≡ false → xs ≡ []
+pub empty : {A : Type 0} (xs : List A) → not (is_nil xs) ≡ false → xs ≡ []
 empty [] e = refl
 empty (x ∷ xs) e = absurd (cc)
 

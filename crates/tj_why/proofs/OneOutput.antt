@@ -1,35 +1,47 @@
 -- Words and an input have one output at most, from the laws of the crates below.
-use Rattle.std.proofs.Common.{List, Some, String, ap, inl, inr, refl, subst, sym, take, ℕ, ◌∙◌, ◌≡◌, []}
+use Rattle.std.proofs.Common.{Bool, List, Some, String, ap, cond, false, inl, inr, length, map, refl, subst, sym}
+use Rattle.std.proofs.Common.{take, true, ℕ, ◌∙◌, ◌≡◌, []}
+use Rattle.std.specs.List.{flat_map}
+use Rattle.std.proofs.lemmas.List.{length-map}
 use Rattle.std.specs.declared.alloc.Global.{Global}
 use Rattle.tj_body.specs.Rounds.{meaning}
 use Rattle.tj_command.specs.OneScript.{IsOneScript}
 use Rattle.tj_command.specs.Statuses.{status_of}
 use Rattle.tj_command.specs.declared.status.Status.{Status}
+use Rattle.tj_command.specs.declared.status.Status.TheVariants.{Clean}
 use Rattle.tj_syntax.specs.ScriptTexts.{most_bytes}
 use Rattle.tj_eval.specs.Stands.{IsPlacedMain, PlacedState, placed}
 use Rattle.tj_eval.specs.Statements.{task_of}
 use Rattle.tj_lex.specs.declared.token.Tok.{Tok}
 use Rattle.tj_lex.specs.declared.token.Token.{Token}
 use Rattle.tj_mean.proofs.Outcomes.OneOutcome.{has_one_outcome}
-use Rattle.tj_mean.specs.Outcomes.{is_marked}
+use Rattle.tj_mean.specs.Outcomes.{IsOutcome, is_marked}
 use Rattle.tj_mean.specs.declared.outcome.Outcome.{Outcome}
 use Rattle.tj_syntax.specs.Faults.{IsScript, kinds_of}
 use Rattle.tj_syntax.specs.PlacesOf.{PlacesOfTask}
 use Rattle.tj_syntax.specs.Trees.{Task}
 use Rattle.tj_trace.specs.Logs.{logged_program}
 use Rattle.tj_trace.specs.TraceLaws.{script_program}
+use Rattle.tj_trace.specs.Traces.{AreTraced}
+use Rattle.tj_trace.specs.declared.line.TraceLine.{TraceLine}
 use Rattle.tj_command.proofs.MainDeclaration.{one_main}
 use Rattle.tj_trace.proofs.OneTrace.{one_trace}
+use Rattle.tj_trace.proofs.Seen.{is_of_outcome}
 use Rattle.tj_why.proofs.Readings.{one_command}
 use Rattle.tj_why.specs.Carets.{fault_text}
 use Rattle.tj_why.specs.WhyOutput.{ArePlaces, IsCommandOutput, IsOutput, IsToldFault, IsToldRun, IsToldScript, ended}
-use Rattle.tj_why.specs.WhyOutput.{needs_more, of_command, usage}
+use Rattle.tj_why.specs.WhyOutput.{needs_more, of_command, tells_lines, usage, was_fine}
+use Rattle.tj_why.specs.Findings.{findings_of}
+use Rattle.tj_why.specs.Scenes.{Told}
 use Rattle.tj_why.specs.Tellings.{why_text}
+use Rattle.tj_why.specs.WhyTexts.{fine_text, finding_text, told_text}
+use Rattle.tj_why.specs.declared.telling.Telling.{Telling}
+use Rattle.tj_why.specs.declared.telling.Telling.TheVariants as telling
 use Rattle.tj_why.specs.declared.line.WhyCommand.{WhyCommand}
 
 -- the same status and the same text
-abbrev Same : Status → List ℕ → Status → List ℕ → Type 0
-Same a s b t = (a ≡ b) × (s ≡ t)
+abbrev Same : Status → Status → List ℕ → List ℕ → Type 0
+Same a b s t = (a ≡ b) × (s ≡ t)
 
 some_is : {A : Type 0} (a b : A) → Some a ≡ Some b → a ≡ b
 some_is a b e = cc
@@ -49,28 +61,87 @@ one_places : (tokens : List Token) (script : List Task) → IsScript (kinds_of t
 one_places tokens script is a b h k =
     h is.notes script is.derived is.spells ∙ sym (k is.notes script is.derived is.spells)
 
--- a run is told in one way
-one_run : (command : WhyCommand) (script : List Task) (tokens : List Token) (root : PlacedState)
-    → IsScript (kinds_of tokens) script → (a b : Status) (s t : List ℕ) → IsToldRun command script tokens root a s
-    → IsToldRun command script tokens root b t → Same a s b t
-one_run command script tokens root is a b s t (needs_more m) (needs_more n) = (refl, refl)
-one_run command script tokens root is a b s t (needs_more m) (ended o ls ps fits h k l) = absurd (fits m)
-one_run command script tokens root is a b s t (ended o ls ps fits h k l) (needs_more m) = absurd (fits m)
-one_run command script tokens root is a b s t (ended o ls ps fits h k l) (ended p ms qs also i j m) =
-    let cells = command.limits.cells in
-    let strict = command.limits.strict in
-    let outcome : o ≡ p = has_one_outcome (meaning (script_program strict root) cells) o p h i in
-    let lines : ls ≡ ms = one_trace (logged_program strict root) cells ls ms k j in
-    let places : ps ≡ qs = one_places tokens script is ps qs l m in (
-      ap (λ (x : Outcome). status_of (is_marked x)) outcome,
-      ap (λ x. why_text script x ls o command.telling) places ∙ ap (λ x. why_text script qs x o command.telling) lines
-          ∙ ap (λ x. why_text script qs ms x command.telling) outcome,
-    )
+-- what isn't told by lines isn't marked
+pub not_marked : (kind : Telling) (marked : Bool) → tells_lines kind marked ≡ false → marked ≡ false
+not_marked telling.Wrong marked h = h
+not_marked telling.All marked h = h
+not_marked telling.Dot marked h = absurd (cc)
+
+-- what isn't told by lines isn't marked, and is told to be fine by lines too
+plain_text : (script : List Task) (places : List PlacesOfTask) (lines : List TraceLine) (o : Outcome)
+    (telling : Telling) → tells_lines telling (is_marked o) ≡ false → map (λ (l : TraceLine). l.line) lines ≡ o.lines
+    → (is_marked o ≡ false) × (why_text script places lines o telling ≡ fine_text (length o.lines))
+plain_text script places lines o kind plain same = by kind plain where
+  long : length lines ≡ length o.lines
+  long = sym (length-map lines (λ (l : TraceLine). l.line)) ∙ ap length same
+
+  s : Told
+  s = record { script = script; places = places }
+
+  words : (all : Bool) → is_marked o ≡ false → told_text s lines o all ≡ fine_text (length o.lines)
+  words all fine =
+      ap (λ b. cond b (flat_map (finding_text s all) (findings_of lines o.cycles)) (fine_text (length lines))) fine
+      ∙ ap fine_text long
+
+  by : (kind : Telling) → tells_lines kind (is_marked o) ≡ false
+      → (is_marked o ≡ false) × (why_text script places lines o kind ≡ fine_text (length o.lines))
+  by telling.Wrong h = (h, words false h)
+  by telling.All h = (h, words true h)
+  by telling.Dot h = absurd (cc)
+
+module _ (command : WhyCommand) (script : List Task) (tokens : List Token) (root : PlacedState) where
+  abbrev cells : ℕ
+  cells = command.limits.cells
+
+  abbrev strict : Bool
+  strict = command.limits.strict
+
+  abbrev one_of : (o p : Outcome) → IsOutcome (meaning (script_program strict root) cells) o
+      → IsOutcome (meaning (script_program strict root) cells) p → o ≡ p
+  one_of = has_one_outcome (meaning (script_program strict root) cells)
+
+  -- told by lines and not
+  mixed : (o p : Outcome) (lines : List TraceLine) (places : List PlacesOfTask)
+      → IsOutcome (meaning (script_program strict root) cells) o
+      → IsOutcome (meaning (script_program strict root) cells) p → AreTraced (logged_program strict root) cells lines
+      → tells_lines command.telling (is_marked p) ≡ false
+      → Same (status_of (is_marked o)) Clean (why_text script places lines o command.telling)
+      (fine_text (length p.lines))
+  mixed o p lines places h i traced plain =
+      let same = one_of o p h i in
+      let told = plain_text script places lines p command.telling plain
+      (is_of_outcome strict root cells lines p traced i) in (
+        ap (λ (x : Outcome). status_of (is_marked x)) same ∙ ap status_of told.0,
+        ap (λ x. why_text script places lines x command.telling) same ∙ told.1,
+      )
+
+  -- a run is told in one way
+  one_run : IsScript (kinds_of tokens) script → (a b : Status) (s t : List ℕ)
+      → IsToldRun command script tokens root a s → IsToldRun command script tokens root b t → Same a b s t
+  one_run is a b s t (needs_more m) (needs_more n) = (refl, refl)
+  one_run is a b s t (needs_more m) (was_fine o fits h plain) = absurd (fits m)
+  one_run is a b s t (needs_more m) (ended o ls ps fits h k l) = absurd (fits m)
+  one_run is a b s t (was_fine o fits h plain) (needs_more m) = absurd (fits m)
+  one_run is a b s t (was_fine o fits h plain) (was_fine p also i flat) =
+      (refl, ap (λ (x : Outcome). fine_text (length x.lines)) (one_of o p h i))
+  one_run is a b s t (was_fine o fits h plain) (ended p ms qs also i j m) =
+      let back = mixed p o ms qs i h j plain in (sym back.0, sym back.1)
+  one_run is a b s t (ended o ls ps fits h k l) (needs_more m) = absurd (fits m)
+  one_run is a b s t (ended o ls ps fits h k l) (was_fine p also i plain) = mixed o p ls ps h i k plain
+  one_run is a b s t (ended o ls ps fits h k l) (ended p ms qs also i j m) =
+      let outcome : o ≡ p = one_of o p h i in
+      let lines : ls ≡ ms = one_trace (logged_program strict root) cells ls ms k j in
+      let places : ps ≡ qs = one_places tokens script is ps qs l m in (
+        ap (λ (x : Outcome). status_of (is_marked x)) outcome,
+        ap (λ x. why_text script x ls o command.telling) places
+            ∙ ap (λ x. why_text script qs x o command.telling) lines
+            ∙ ap (λ x. why_text script qs ms x command.telling) outcome,
+      )
 
 module _ (command : WhyCommand) (input : List ℕ) (one : IsOneScript input) where
   -- a script is told in one way
   one_script : (a b : Status) (s t : List ℕ) → IsToldScript command input a s → IsToldScript command input b t
-      → Same a s b t
+      → Same a b s t
   one_script a b s t h k =
       let script : k.script ≡ h.script = one.script k.script h.script k.is h.is in
       let tokens : k.is.tokens ≡ h.is.tokens =
@@ -86,7 +157,7 @@ module _ (command : WhyCommand) (input : List ℕ) (one : IsOneScript input) whe
       one_run command h.script h.is.tokens h.root h.is.is_script a b s t h.told told
 
   -- a fault is told in one way
-  one_fault_told : (a b : Status) (s t : List ℕ) → IsToldFault input a s → IsToldFault input b t → Same a s b t
+  one_fault_told : (a b : Status) (s t : List ℕ) → IsToldFault input a s → IsToldFault input b t → Same a b s t
   one_fault_told a b s t h k = (
     h.is_script ∙ sym k.is_script,
     h.told ∙ ap (fault_text (take most_bytes input)) (one.fault h.fault k.fault h.first k.first) ∙ sym k.told,
@@ -94,7 +165,7 @@ module _ (command : WhyCommand) (input : List ℕ) (one : IsOneScript input) whe
 
   -- so is an input
   one_of_command : (a b : Status) (s t : List ℕ) → IsCommandOutput command input a s → IsCommandOutput command input b t
-      → Same a s b t
+      → Same a b s t
   one_of_command a b s t (inl f) (inl g) = one_fault_told a b s t f g
   one_of_command a b s t (inl f) (inr k) = absurd (one.not_both k.script f.fault k.is f.first)
   one_of_command a b s t (inr h) (inl g) = absurd (one.not_both h.script g.fault h.is g.first)

@@ -7,7 +7,7 @@ use Rattle.tj_command.specs.declared.status.Status.{Status}
 use Rattle.tj_eval.specs.Stands.{PlacedState}
 use Rattle.tj_lex.specs.declared.token.Token.{Token}
 use Rattle.tj_syntax.specs.Trees.{Task}
-use Rattle.tj_why.specs.WhyOutput.{IsCommandOutput, IsToldRun, ended, needs_more}
+use Rattle.tj_why.specs.WhyOutput.{IsCommandOutput, IsToldRun, ended, needs_more, was_fine}
 use Rattle.tj_why.specs.declared.line.WhyCommand.{WhyCommand}
 
 own-status_of : (marked : Bool) → IsOwn (status_of marked)
@@ -17,6 +17,7 @@ own-status_of false = tt
 own-run : (command : WhyCommand) (script : List Task) (tokens : List Token) (root : PlacedState) (status : Status)
     (text : List ℕ) → IsToldRun command script tokens root status text → IsOwn status
 own-run command script tokens root _ _ (needs_more more) = tt
+own-run command script tokens root _ _ (was_fine outcome fits is plain) = tt
 own-run command script tokens root _ _ (ended outcome lines places fits is traced placed) = own-status_of _
 
 -- what is told of an input has one of them

@@ -1,5 +1,5 @@
 -- The tasks that findings tell are those of lines, and stand where these say.
-use Rattle.std.proofs.Common.{◌≡◌, ℕ, zero, suc, ◌<◌, ◌+◌, ◌-◌, Bool, true, false, cond, List, [], ◌∷◌, ◌++◌, map}
+use Rattle.std.proofs.Common.{◌≡◌, ℕ, zero, suc, ◌<◌, ◌+◌, ◌-◌, Bool, true, false, cond, List, [], ◌∷◌, map}
 use Rattle.std.proofs.Common.{length, Option, Some, None, refl, sym, ap, subst, ◌∙◌, inl, inr, ◌⊎◌, take, arith}
 use Rattle.std.specs.Prelude.{option_to_list, option_and_then, slice_get, unwrap_or}
 use Rattle.std.specs.Option.{option_map, option_or}
@@ -7,19 +7,16 @@ use Rattle.std.specs.List.{find, flat_map}
 use Rattle.std.proofs.Math.Seq.{take-length}
 use Rattle.std.proofs.lemmas.List.{take_more}
 use Rattle.tj_base.specs.ForkOrder.{Name, child}
-use Rattle.tj_base.specs.declared.cause.Cause.{Cause}
-use Rattle.tj_base.specs.declared.cause.Cause.TheVariants as cause
 use Rattle.tj_body.specs.Points.{IsIn}
 use Rattle.tj_body.specs.Names.{same}
-use Rattle.tj_body.proofs.Lists.{from_flat_map, in_either, in_left, in_map, in_right}
-use Rattle.tj_eval.specs.Stands.{AreNamed, IsPlacedMain, PlacedState, StandsRight, all_ahead, placed, within}
-use Rattle.tj_eval.specs.Statements.{listed, task_of}
+use Rattle.tj_body.proofs.Lists.{from_flat_map, in_map}
+use Rattle.tj_eval.specs.Stands.{AreNamed, IsPlacedMain, PlacedState, StandsRight, all_ahead, within}
+use Rattle.tj_eval.specs.Statements.{listed}
 use Rattle.tj_eval.proofs.Stands.{all_named}
 use Rattle.tj_lex.specs.declared.token.Token.{Token}
 use Rattle.tj_mean.specs.declared.outcome.Ending.{Ending}
 use Rattle.tj_mean.specs.declared.outcome.Ending.TheVariants as ending
 use Rattle.tj_mean.specs.declared.outcome.Link.{Link}
-use Rattle.tj_syntax.specs.Faults.{main_of}
 use Rattle.tj_syntax.specs.Grammar.{IsProgram}
 use Rattle.tj_syntax.specs.Marks.{Noted}
 use Rattle.tj_syntax.specs.PlacesOf.{PlacesOfTask, places_of}
@@ -27,17 +24,17 @@ use Rattle.tj_syntax.specs.Starts.{in_tasks}
 use Rattle.tj_syntax.specs.Trees.{Task}
 use Rattle.tj_trace.specs.Logs.{logged_program}
 use Rattle.tj_trace.specs.Lookups.{made_by}
-use Rattle.tj_trace.specs.RightLines.{IsForkOf, IsStatementAt, StandsWhere}
-use Rattle.tj_trace.specs.SpotLaws.{HasPlace}
+use Rattle.tj_trace.specs.RightLines.{IsForkOf, StandsWhere}
 use Rattle.tj_trace.specs.Traces.{AreTraced}
 use Rattle.tj_trace.specs.declared.line.Maker.{Maker}
 use Rattle.tj_trace.specs.declared.line.TraceLine.{TraceLine}
 use Rattle.tj_trace.proofs.LinesPlaced.{lines_have_places}
 use Rattle.tj_trace.proofs.LinesRight.{lines_are_forked, lines_are_right}
 use Rattle.tj_mean.proofs.Lists.Elements.{in_get, some_is}
+use Rattle.tj_why.proofs.Found.{IsOf, a_cycle, a_debt, a_failure, a_wait, an_echo, is_of}
 use Rattle.tj_why.specs.Echoes.{back, back_by, breaker, echoed_by, most_doublings, origin}
-use Rattle.tj_why.specs.Findings.{behind, behind_with, echo, echo_with, failed, failed_with, findings_of, is_member}
-use Rattle.tj_why.specs.Findings.{is_owing, link_wait, owed, told_cycle, told_debt, told_task, wait_by}
+use Rattle.tj_why.specs.Findings.{findings_of}
+use Rattle.tj_why.specs.Findings.{link_wait, owed, told_task, wait_by}
 use Rattle.tj_why.specs.Positions.{IsToldRight, TasksAreToldRight, tasks_in}
 use Rattle.tj_why.specs.Searches.{last_number, line_of, maker_name, maker_of, owner_of}
 use Rattle.tj_why.specs.declared.finding.Finding.{Finding}
@@ -66,7 +63,7 @@ main_right script steps root is =
     )
 
 -- what is found is an element
-found_in : (p : TraceLine → Bool) (ls : List TraceLine) (l : TraceLine) → find p ls ≡ Some l → IsIn l ls
+pub found_in : (p : TraceLine → Bool) (ls : List TraceLine) (l : TraceLine) → find p ls ≡ Some l → IsIn l ls
 found_in p [] l e = absurd (cc)
 found_in p (m ∷ ms) l e = by (p m) (found_in p ms l) e where
   by : (b : Bool) → (find p ms ≡ Some l → IsIn l ms) → cond b (Some m) (find p ms) ≡ Some l → (l ≡ m) ⊎ IsIn l ms
@@ -79,8 +76,8 @@ module _ (lines : List TraceLine) where
   IsOfLine t = (l : TraceLine) × IsIn l lines × (t ≡ told_task lines l)
 
   breaker_in : (q : Name) (l : TraceLine) → breaker lines q ≡ Some l → IsIn l lines
-  breaker_in q l e = by (line_of lines q) refl e where
-    by : (o : Option TraceLine) → line_of lines q ≡ o → option_or o (owner_of lines q) ≡ Some l → IsIn l lines
+  breaker_in q l e = by (owner_of lines q) refl e where
+    by : (o : Option TraceLine) → owner_of lines q ≡ o → option_or o (line_of lines q) ≡ Some l → IsIn l lines
     by None is e = found_in _ lines l e
     by (Some m) is e = found_in _ lines l (is ∙ e)
 
@@ -107,52 +104,9 @@ module _ (lines : List TraceLine) where
     by (Some l) e (inl same) = (back_by lines most_doublings l, far_in most_doublings l (breaker_in q l e), same)
     by (Some l) e (inr i) = absurd i
 
-  of_behind : (l : TraceLine) → IsIn l lines → (b : Bool) (e : Ending) (t : ToldTask)
-      → IsIn t (flat_map tasks_in (behind_with lines b l e)) → IsOfLine t
-  of_behind l there b (ending.Done v) t i = absurd i
-  of_behind l there b (ending.Failed c) t i = absurd i
-  of_behind l there true (ending.Waits q) t i = absurd i
-  of_behind l there false (ending.Waits q) t (inl e) = (l, there, e)
-  of_behind l there false (ending.Waits q) t (inr i) = absurd i
-
-  of_failed : (l : TraceLine) → IsIn l lines → (e : Ending) (t : ToldTask)
-      → IsIn t (flat_map tasks_in (failed_with lines l e)) → IsOfLine t
-  of_failed l there (ending.Done v) t i = absurd i
-  of_failed l there (ending.Failed cause.Arith) t (inl e) = (l, there, e)
-  of_failed l there (ending.Failed cause.Kind) t (inl e) = (l, there, e)
-  of_failed l there (ending.Failed cause.Steps) t (inl e) = (l, there, e)
-  of_failed l there (ending.Failed (cause.Owner q)) t (inl e) = (l, there, e)
-  of_failed l there (ending.Failed (cause.Order q)) t (inl e) = (l, there, e)
-  of_failed l there (ending.Failed cause.Arith) t (inr i) = absurd i
-  of_failed l there (ending.Failed cause.Kind) t (inr i) = absurd i
-  of_failed l there (ending.Failed cause.Steps) t (inr i) = absurd i
-  of_failed l there (ending.Failed (cause.Owner q)) t (inr i) = absurd i
-  of_failed l there (ending.Failed (cause.Order q)) t (inr i) = absurd i
-  of_failed l there (ending.Failed (cause.Broken q)) t i = absurd i
-  of_failed l there (ending.Waits q) t i = absurd i
-
-  of_debts : (l : TraceLine) → IsIn l lines → (b : Bool) (qs : List Name) (t : ToldTask)
-      → IsIn t (flat_map tasks_in (cond b (map (told_debt lines l) qs) [])) → IsOfLine t
-  of_debts l there false qs t i = absurd i
-  of_debts l there true [] t i = absurd i
-  of_debts l there true (q ∷ qs) t (inl e) = (l, there, e)
-  of_debts l there true (q ∷ qs) t (inr i) = of_debts l there true qs t i
-
-  of_echo : (l : TraceLine) → IsIn l lines → (e : Ending) (t : ToldTask)
-      → IsIn t (flat_map tasks_in (echo_with lines l e)) → IsOfLine t
-  of_echo l there (ending.Done v) t i = absurd i
-  of_echo l there (ending.Failed cause.Arith) t i = absurd i
-  of_echo l there (ending.Failed cause.Kind) t i = absurd i
-  of_echo l there (ending.Failed cause.Steps) t i = absurd i
-  of_echo l there (ending.Failed (cause.Owner q)) t i = absurd i
-  of_echo l there (ending.Failed (cause.Order q)) t i = absurd i
-  of_echo l there (ending.Failed (cause.Broken q)) t (inl e) = (l, there, e)
-  of_echo l there (ending.Failed (cause.Broken q)) t (inr i) =
-      by (in_either t (option_to_list (option_map (told_task lines) (origin lines q))) [] i) where
-        by : IsIn t (option_to_list (option_map (told_task lines) (origin lines q))) ⊎ IsIn t [] → IsOfLine t
-        by (inl j) = of_origin q t j
-        by (inr j) = absurd j
-  of_echo l there (ending.Waits q) t i = absurd i
+  one_task : (l : TraceLine) → IsIn l lines → (t : ToldTask) → IsIn t (told_task lines l ∷ []) → IsOfLine t
+  one_task l there t (inl e) = (l, there, e)
+  one_task l there t (inr i) = absurd i
 
   of_waits : (ks : List Link) (t : ToldTask) → IsIn t (map (λ (w : Wait). w.task) (flat_map (link_wait lines) ks))
       → IsOfLine t
@@ -168,65 +122,32 @@ module _ (lines : List TraceLine) where
         let k = from_flat_map (link_wait lines) w ks j in
         one k.0.cell (line_of lines k.0.task) (λ l h. found_in _ lines l h) w k.2 e
 
-  module _ (cycles : List (List Link)) (t : ToldTask) (f : Finding) (j : IsIn t (tasks_in f)) where
-    here : (fs : List Finding) → IsIn f fs → IsIn t (flat_map tasks_in fs)
-    here [] k = absurd k
-    here (g ∷ gs) (inl e) = in_left t (tasks_in g) (flat_map tasks_in gs) (subst (λ h. IsIn t (tasks_in h)) e j)
-    here (g ∷ gs) (inr k) = in_right t (tasks_in g) (flat_map tasks_in gs) (here gs k)
-
-    first : IsIn f (map (told_cycle lines) cycles) ⊎ IsIn f (flat_map (behind lines cycles) lines) → IsOfLine t
-    first (inl k) =
-        let c = in_map (told_cycle lines) f cycles k in
-        of_waits c.0 t (subst (λ h. IsIn t (tasks_in h)) c.2 j)
-    first (inr k) =
-        let l = from_flat_map (behind lines cycles) f lines k in
-        of_behind l.0 l.1 (is_member cycles l.0.line.name) l.0.line.ending t (here (behind lines cycles l.0) l.2)
-
-    third : IsIn f (map (told_cycle lines) cycles ++ flat_map (behind lines cycles) lines)
-        ⊎ IsIn f (flat_map (failed lines) lines) → IsOfLine t
-    third (inl k) = first (in_either f _ (flat_map (behind lines cycles) lines) k)
-    third (inr k) =
-        let l = from_flat_map (failed lines) f lines k in
-        of_failed l.0 l.1 l.0.line.ending t (here (failed lines l.0) l.2)
-
-    fourth : IsIn f (map (told_cycle lines) cycles ++ flat_map (behind lines cycles) lines
-        ++ flat_map (failed lines) lines) ⊎ IsIn f (flat_map (owed lines true) lines) → IsOfLine t
-    fourth (inl k) = third (in_either f _ (flat_map (failed lines) lines) k)
-    fourth (inr k) =
-        let l = from_flat_map (owed lines true) f lines k in
-        of_debts l.0 l.1 (is_owing true l.0.line.ending) l.0.line.owes t (here (owed lines true l.0) l.2)
-
-    fifth : IsIn f (map (told_cycle lines) cycles ++ flat_map (behind lines cycles) lines
-        ++ flat_map (failed lines) lines ++ flat_map (owed lines true) lines)
-        ⊎ IsIn f (flat_map (owed lines false) lines) → IsOfLine t
-    fifth (inl k) = fourth (in_either f _ (flat_map (owed lines true) lines) k)
-    fifth (inr k) =
-        let l = from_flat_map (owed lines false) f lines k in
-        of_debts l.0 l.1 (is_owing false l.0.line.ending) l.0.line.owes t (here (owed lines false l.0) l.2)
-
-    sixth : IsIn f (map (told_cycle lines) cycles ++ flat_map (behind lines cycles) lines
-        ++ flat_map (failed lines) lines ++ flat_map (owed lines true) lines ++ flat_map (owed lines false) lines)
-        ⊎ IsIn f (flat_map (echo lines) lines) → IsOfLine t
-    sixth (inl k) = fifth (in_either f _ (flat_map (owed lines false) lines) k)
-    sixth (inr k) =
-        let l = from_flat_map (echo lines) f lines k in
-        of_echo l.0 l.1 l.0.line.ending t (here (echo lines l.0) l.2)
+  of_finding : (cycles : List (List Link)) (t : ToldTask) (f : Finding) → IsOf lines cycles f → IsIn t (tasks_in f)
+      → IsOfLine t
+  of_finding cycles t f (a_cycle c j e) i = of_waits c t (subst (λ h. IsIn t (tasks_in h)) e i)
+  of_finding cycles t f (a_wait l there q is e) i = one_task l there t (subst (λ h. IsIn t (tasks_in h)) e i)
+  of_finding cycles t f (a_failure l there c is none e) i = one_task l there t (subst (λ h. IsIn t (tasks_in h)) e i)
+  of_finding cycles t f (a_debt l there q owed e) i = one_task l there t (subst (λ h. IsIn t (tasks_in h)) e i)
+  of_finding cycles t f (an_echo l there q is e) i = by (subst (λ h. IsIn t (tasks_in h)) e i) where
+    by : IsIn t (told_task lines l ∷ option_to_list (option_map (told_task lines) (origin lines q))) → IsOfLine t
+    by (inl same) = (l, there, same)
+    by (inr j) = of_origin q t j
 
   -- each task that is told is one of a line
   pub of_lines : (cycles : List (List Link)) (t : ToldTask) → IsIn t (flat_map tasks_in (findings_of lines cycles))
       → IsOfLine t
   of_lines cycles t i =
       let f = from_flat_map tasks_in t (findings_of lines cycles) i in
-      sixth cycles t f.0 f.2 (in_either f.0 _ (flat_map (echo lines) lines) f.1)
+      of_finding cycles t f.0 (is_of lines cycles f.0 f.1) f.2
 
 -- the name without its last number, and that number, are the name
-split_name : (x : Name) → 0 < length x → x ≡ child (maker_name x) (last_number x)
+pub split_name : (x : Name) → 0 < length x → x ≡ child (maker_name x) (last_number x)
 split_name x some =
     let whole : length x ≡ (length x - 1) + 1 = omega arith in
     sym (take-length x) ∙ ap (λ k. take k x) whole ∙ take_more x (length x - 1) 0 (omega arith)
 
 -- a maker that is told is one that a line tells
-maker_in : (lines : List TraceLine) (x : Name) (m : Maker) → maker_of lines x ≡ Some m
+pub maker_in : (lines : List TraceLine) (x : Name) (m : Maker) → maker_of lines x ≡ Some m
     → (l : TraceLine) × IsIn l lines × IsIn m l.makers
 maker_in lines [] m e = absurd (cc)
 maker_in lines (x ∷ xs) m e =

@@ -1,6 +1,6 @@
 -- From what each step gives to what is told of an input.
 use Rattle.std.proofs.Common.{Err, IfOk, List, Ok, Result, Some, [], ap, inl, inr, length, subst, sym, take_all}
-use Rattle.std.proofs.Common.{ℕ, ◌∙◌, ◌≡◌, ◌≤◌, ◌⊎◌, Bool}
+use Rattle.std.proofs.Common.{false, ℕ, ◌∙◌, ◌≡◌, ◌≤◌, ◌⊎◌, Bool}
 use Rattle.tj_base.specs.declared.memory.Oom.{Oom}
 use Rattle.tj_body.specs.Rounds.{IsFull, meaning}
 use Rattle.tj_command.proofs.Inputs.{read_long, read_whole}
@@ -9,7 +9,7 @@ use Rattle.tj_command.specs.Statuses.{status_of}
 use Rattle.tj_command.specs.Texts.{full_line}
 use Rattle.tj_command.specs.declared.output.Output.{Output}
 use Rattle.tj_command.specs.declared.status.Status.{Status}
-use Rattle.tj_command.specs.declared.status.Status.TheVariants.{Full, Script}
+use Rattle.tj_command.specs.declared.status.Status.TheVariants.{Clean, Full, Script}
 use Rattle.tj_syntax.proofs.ScriptTexts.{long_first}
 use Rattle.tj_syntax.specs.ScriptTexts.{IsFirstFault, IsMemory, most_bytes}
 use Rattle.tj_syntax.specs.declared.script_text.NoScript.{NoScript}
@@ -34,7 +34,9 @@ use Rattle.tj_trace.specs.Traces.{AreTraced}
 use Rattle.tj_trace.specs.declared.line.TraceLine.{TraceLine}
 use Rattle.tj_why.specs.Carets.{fault_text}
 use Rattle.tj_why.specs.Tellings.{why_text}
-use Rattle.tj_why.specs.WhyOutput.{ArePlaces, IsCommandOutput, IsToldRun, ended, needs_more}
+use Rattle.tj_why.specs.WhyOutput.{ArePlaces, IsCommandOutput, IsToldRun, ended, needs_more, tells_lines}
+use Rattle.tj_why.specs.WhyOutput.{was_fine}
+use Rattle.tj_why.specs.WhyTexts.{fine_text}
 use Rattle.tj_why.specs.declared.line.WhyCommand.{WhyCommand}
 
 -- what is told of a text with this fault
@@ -122,6 +124,17 @@ module _ (command : WhyCommand) (script : List Task) (tokens : List Token) (root
       subst (λ z. IsToldRun command script tokens root z text) (sym s)
       (subst (λ z. IsToldRun command script tokens root (status_of (is_marked outcome)) z) (sym t)
       (ended outcome lines places fits is traced placed))
+
+  -- a run in which nothing went wrong
+  pub fine_told : (outcome : Outcome) (r : Result Output Oom) → ¬ IsFull (script_program strict root) cells
+      → IsOutcome (meaning (script_program strict root) cells) outcome
+      → tells_lines command.telling (is_marked outcome) ≡ false → IfOk r (λ output. output.status ≡ Clean)
+      → IfOk r (λ output. output.text.items ≡ fine_text (length outcome.lines))
+      → IfOk r (λ output. IsToldRun command script tokens root output.status output.text.items)
+  fine_told outcome (Err oom) fits is plain s t = tt
+  fine_told outcome (Ok output) fits is plain s t =
+      subst (λ z. IsToldRun command script tokens root z output.text.items) (sym s)
+      (subst (λ z. IsToldRun command script tokens root Clean z) (sym t) (was_fine outcome fits is plain))
 
   -- a run that needs more cells, of a body that is the root's
   pub full_told : (body : TaskState) (status : Status) (text : List ℕ) → body ≡ root.task

@@ -41,7 +41,7 @@ use Rattle.tj_why.proofs.DebtsOnce.{debts_are_distinct}
 use Rattle.tj_why.proofs.LineNumbers.{found_there}
 use Rattle.tj_why.proofs.ToldParts.{debts_by, debts_told, failures_echo, failures_failed, failures_told, waits_behind}
 use Rattle.tj_why.proofs.ToldParts.{waits_told}
-use Rattle.tj_why.specs.Explanations.{OwedIt, StoppedSo, TellsEachOnce, debts_in, failures_in, link_told, waits_in}
+use Rattle.tj_why.specs.Explanations.{OwedIt, StoppedSo, TellsEachOnce, debts_in, failures_in, waits_in}
 use Rattle.tj_why.specs.Findings.{behind_with, echo_with, failed_with, findings_of, is_member, is_owing, told_debt}
 use Rattle.tj_why.specs.Searches.{line_of}
 

@@ -9,6 +9,8 @@ use Rattle.tj_mean.specs.declared.outcome.Ending.{Ending}
 use Rattle.tj_mean.specs.declared.outcome.Ending.TheVariants as ending
 use Rattle.tj_mean.specs.declared.outcome.Link.{Link}
 use Rattle.tj_trace.specs.declared.line.TraceLine.{TraceLine}
+use Rattle.tj_mean.specs.ReportTexts.{cause_text}
+use Rattle.tj_why.specs.Echoes.{echoed_by, origin}
 use Rattle.tj_why.specs.Findings.{is_member}
 use Rattle.tj_why.specs.Scenes.{Told, name_of, spot_text}
 use Rattle.tj_why.specs.Searches.{line_of, maker_name}
@@ -41,10 +43,21 @@ fill (ending.Done v) = codes "\"];\n"
 fill (ending.Failed c) = codes "\", style=filled, fillcolor=salmon];\n"
 fill (ending.Waits q) = codes "\"];\n"
 
--- the node of a task: its name, its declaration, and where it stopped
+-- why a task failed that stopped so, as a line of its node
+abbrev pub cause_line : Ending → List ℕ
+cause_line (ending.Done v) = []
+cause_line (ending.Failed c) = codes "\\n" ++ cause_text c
+cause_line (ending.Waits q) = []
+
+-- the lines of the node of a task below its name: its declaration, where it stopped, and why it failed
+abbrev pub task_lines : Told → TraceLine → List ℕ
+task_lines s l = codes "\\n" ++ name_of (slice_get s.script l.decl) ++ codes "\\n" ++ spot_text s l.decl l.at
+    ++ cause_line l.line.ending
+
+-- the node of a task: its name, and these lines
 abbrev pub task_node : Told → TraceLine → List ℕ
-task_node s l = codes "  " ++ node l.line.name ++ codes " [label=\"" ++ name_text l.line.name ++ codes "\\n"
-    ++ name_of (slice_get s.script l.decl) ++ codes "\\n" ++ spot_text s l.decl l.at ++ fill l.line.ending
+task_node s l = codes "  " ++ node l.line.name ++ codes " [label=\"" ++ name_text l.line.name ++ task_lines s l
+    ++ fill l.line.ending
 
 -- the line of the task that forked the one with this name, if it is in the picture
 abbrev pub forker : List TraceLine → Name → Option TraceLine
@@ -66,9 +79,25 @@ wait_edge cycles x (ending.Done v) = []
 wait_edge cycles x (ending.Failed c) = []
 wait_edge cycles x (ending.Waits q) = edge x q (wait_style (is_member cycles x))
 
--- a promise that was never set, and the edge to the task that owned it
-abbrev pub promise_node : Name → Name → List ℕ
-promise_node x q = codes "  " ++ node q ++ codes " [shape=ellipse];\n" ++ edge q x (codes " [style=dotted];\n")
+-- the edge from a task to the one from whose end its failure came
+abbrev pub origin_edge : Name → Option TraceLine → List ℕ
+origin_edge x None = []
+origin_edge x (Some l) = edge x l.line.name (codes " [style=dotted, color=salmon];\n")
+
+-- the same where the task failed for this cell, which is broken
+abbrev pub origin_edge_of : List TraceLine → Name → Option Name → List ℕ
+origin_edge_of lines x None = []
+origin_edge_of lines x (Some q) = origin_edge x (origin lines q)
+
+-- how a promise is drawn that the task owned which stopped so: one that it owed is filled
+abbrev pub promise_style : Ending → List ℕ
+promise_style (ending.Done v) = codes " [shape=ellipse, style=filled, fillcolor=khaki];\n"
+promise_style (ending.Failed c) = codes " [shape=ellipse, style=filled, fillcolor=khaki];\n"
+promise_style (ending.Waits q) = codes " [shape=ellipse];\n"
+
+-- a promise that was never set, drawn so, and the edge to the task that owned it
+abbrev pub promise_node : List ℕ → Name → Name → List ℕ
+promise_node style x q = codes "  " ++ node q ++ style ++ edge q x (codes " [style=dotted];\n")
 
 -- the promises that a task owned where it stopped
 abbrev pub promises_with : Ending → TraceLine → List Name
@@ -76,10 +105,12 @@ promises_with (ending.Done v) l = l.line.owes
 promises_with (ending.Failed c) l = l.line.owes
 promises_with (ending.Waits q) l = l.holds
 
--- what is drawn of a task: its node, the fork that made it, its wait, and the promises that it owned
+-- what is drawn of a task: its node, the fork that made it, its wait, the origin of its echo, and the promises that it
+-- owned
 abbrev pub drawn : Told → List TraceLine → List (List Link) → TraceLine → List ℕ
 drawn s lines cycles l = task_node s l ++ fork_edge l.line.name (forker lines l.line.name)
-    ++ wait_edge cycles l.line.name l.line.ending ++ flat_map (promise_node l.line.name) (promises_with l.line.ending l)
+    ++ wait_edge cycles l.line.name l.line.ending ++ origin_edge_of lines l.line.name (echoed_by l.line.ending)
+    ++ flat_map (promise_node (promise_style l.line.ending) l.line.name) (promises_with l.line.ending l)
 
 -- the same where the task is in the picture
 abbrev pub drawing : Told → List TraceLine → List (List Link) → TraceLine → List ℕ

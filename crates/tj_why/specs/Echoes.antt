@@ -24,14 +24,14 @@ echoed_by (ending.Done v) = None
 echoed_by (ending.Failed c) = echoed c
 echoed_by (ending.Waits q) = None
 
--- each of 2 ^ 20 cells can be a task: so often are the steps back doubled
+-- a run of 2 ^ 20 cells has 2 ^ 21 + 1 rounds, and each step comes to an earlier one: so often are the steps doubled
 unfoldable pub most_doublings : ℕ
-most_doublings = 20
+most_doublings = 21
 
 module _ (lines : List TraceLine) where
-  -- the line of the task whose end broke the cell: it is its result, or a promise that it owed
+  -- the line of the task whose end broke the cell: it is a promise that the task owed, or its result
   abbrev pub breaker : Name → Option TraceLine
-  breaker q = option_or (line_of lines q) (owner_of lines q)
+  breaker q = option_or (owner_of lines q) (line_of lines q)
 
   -- the line of the task from whose end the failure of this one came, where it is an echo
   abbrev pub back : TraceLine → Option TraceLine

@@ -123,11 +123,12 @@ abbrev pub LeadsToToldCycle : {B : Type 0} → List (Point B) → List Finding �
 LeadsToToldCycle ps fs x = (y : Name) × (k : ℕ) × Reaches (WaitsFor ps) x k y
     × ((waits : List Wait) × IsIn waits (flat_map cycles_in fs) × IsIn y (members_of waits))
 
--- so they do from each task that is told to wait, in a run that isn't full; the cell for which it waits has an owner
+-- so they do from each task that is told to wait, in a run that isn't full; an owner is told, which owns the cell for
+-- which the task waits
 abbrev pub WaitsLeadToToldCycles : Bool → PlacedState → Type 0
 WaitsLeadToToldCycles strict root = (N : ℕ) (lines : List TraceLine) (o : Outcome)
     → IsFresh script_places script_awaits script_left 1 root.task → ¬ IsFull (script_program strict root) N
     → AreTraced (logged_program strict root) N lines → IsOutcome (meaning (script_program strict root) N) o
     → (w : Wait) → IsIn w (flat_map told_waits_in (findings_of lines o.cycles))
     → LeadsToToldCycle (meaning (script_program strict root) N) (findings_of lines o.cycles) w.task.name
-    × ((y : Name) × (w.owner ≡ Some y))
+    × ((y : Name) × (w.owner ≡ Some y) × WaitsFor (meaning (script_program strict root) N) w.task.name y)

@@ -12,3 +12,7 @@ pub mod Searches
 pub mod Findings
 pub mod Explanations
 pub mod Positions
+pub mod Origins
+pub mod ToldFindings
+pub mod CellsTold
+pub mod TasksTold

@@ -1,11 +1,11 @@
 -- The output: the status and the text that belong to words and an input.
-use Rattle.std.specs.Prelude.{ℕ, ◌≡◌, ◌⊎◌, List, [], ◌∷◌, ◌++◌, String, codes, take}
+use Rattle.std.specs.Prelude.{ℕ, ◌≡◌, ◌⊎◌, Bool, true, false, List, [], ◌∷◌, ◌++◌, String, codes, length, take}
 use Rattle.std.specs.declared.alloc.Global.{Global}
 use Rattle.tj_body.specs.Rounds.{IsFull, meaning}
 use Rattle.tj_command.specs.Statuses.{status_of}
 use Rattle.tj_command.specs.Texts.{full_line}
 use Rattle.tj_command.specs.declared.status.Status.{Status}
-use Rattle.tj_command.specs.declared.status.Status.TheVariants.{Full, Script, Usage}
+use Rattle.tj_command.specs.declared.status.Status.TheVariants.{Clean, Full, Script, Usage}
 use Rattle.tj_syntax.specs.ScriptTexts.{IsFirstFault, IsScriptOf, most_bytes}
 use Rattle.tj_syntax.specs.declared.script_text.NoScript.{NoScript}
 use Rattle.tj_eval.specs.Stands.{IsPlacedMain, PlacedState}
@@ -26,6 +26,9 @@ use Rattle.tj_trace.specs.declared.line.TraceLine.{TraceLine}
 use Rattle.tj_why.specs.WhyLine.{HasNoForm, IsCommand}
 use Rattle.tj_why.specs.Tellings.{why_text}
 use Rattle.tj_why.specs.Carets.{fault_text}
+use Rattle.tj_why.specs.WhyTexts.{fine_text}
+use Rattle.tj_why.specs.declared.telling.Telling.{Telling}
+use Rattle.tj_why.specs.declared.telling.Telling.TheVariants as telling
 use Rattle.tj_why.specs.declared.line.WhyCommand.{WhyCommand}
 
 -- where the words have no form
@@ -37,12 +40,22 @@ abbrev pub ArePlaces : List Token → List PlacesOfTask → Type 0
 ArePlaces tokens places = (notes : List Noted) (script : List Task) (derived : IsProgram notes script)
     → kinds_of tokens ≡ tokens_of notes ++ toks.End ∷ [] → places ≡ places_of tokens (in_tasks derived 0)
 
+-- the lines of the trace are looked into: for a picture, or where the outcome is marked
+abbrev pub tells_lines : Telling → Bool → Bool
+tells_lines telling.Wrong marked = marked
+tells_lines telling.All marked = marked
+tells_lines telling.Dot marked = true
+
 -- What is told of the run of a command's script with this root: that it needs more cells than the limit, or what the
 -- text tells of its outcome, of its trace, and of the places of the script's parts.
 pub data IsToldRun (command : WhyCommand) (script : List Task) (tokens : List Token) (root : PlacedState) :
     Status → List ℕ → Type 0 where
   needs_more : IsFull (script_program command.limits.strict root) command.limits.cells
       → IsToldRun command script tokens root Full (full_line command.limits.cells)
+  was_fine : (outcome : Outcome) → ¬ IsFull (script_program command.limits.strict root) command.limits.cells
+      → IsOutcome (meaning (script_program command.limits.strict root) command.limits.cells) outcome
+      → tells_lines command.telling (is_marked outcome) ≡ false
+      → IsToldRun command script tokens root Clean (fine_text (length outcome.lines))
   ended : (outcome : Outcome) (lines : List TraceLine) (places : List PlacesOfTask)
       → ¬ IsFull (script_program command.limits.strict root) command.limits.cells
       → IsOutcome (meaning (script_program command.limits.strict root) command.limits.cells) outcome

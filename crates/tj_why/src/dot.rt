@@ -5,14 +5,18 @@ ghost use Rattle.std.specs.Option.{option_map};
 ghost use Rattle.tj_mean.specs.Outcomes as outcomes;
 ghost use Rattle.tj_why.specs.DotTexts as spec;
 ghost use Rattle.tj_why.specs.Scenes.{view};
+ghost use Rattle.tj_why.specs.Echoes.{most_doublings};
+ghost use Rattle.tj_why.specs.Inner.Jumps.{AreJumps};
 ghost use Rattle.tj_why.specs.Inner.Numbers.{IsSearchable, HasMembers};
 
+use crate::echoes::{echoed_by, jumps_of, origin};
 use crate::labels::{name_of, spot_text};
 use crate::lookups::{Lookups, Members};
 use crate::members::is_member;
 use crate::scene::Scene;
 use crate::searches::line_named;
 use crate::texts::{joined, named};
+use crate::why_lines::cause_text;
 use std::alloc::Global;
 use tj_base::{Name, Oom};
 use tj_command::count_text;
@@ -71,22 +75,46 @@ fn fill(ending: &Ending) -> &'static [u8]
     }
 }
 
+/// Why a task failed that stopped so, as a line of its node.
+fn cause_line(alloc: Global, ending: &Ending) -> Result<Vec<u8>, Oom>
+    ensures { IfOk result (λ text. text.items ≡ spec.cause_line ending.now) }
+{
+    match ending {
+        Ending::Failed(cause) => {
+            let cause = cause_text(alloc, cause)?;
+            joined(alloc, &[b"\\n", cause.as_slice()])
+        }
+        Ending::Done(_) | Ending::Waits(_) => Ok(Vec::new(alloc)),
+    }
+}
+
+/// The lines of the node of a task below its name.
+fn task_lines(scene: &Scene, line: &TraceLine) -> Result<Vec<u8>, Oom>
+    ensures { IfOk result (λ text. text.items ≡ spec.task_lines (view scene.now) line.now) }
+{
+    let stop = spot_text(scene, line.decl, line.at)?;
+    let cause = cause_line(scene.alloc, &line.line.ending)?;
+    let decl = name_of(scene.script, line.decl);
+    joined(
+        scene.alloc,
+        &[b"\\n", decl, b"\\n", stop.as_slice(), cause.as_slice()],
+    )
+}
+
 /// The node of a task.
 fn task_node(scene: &Scene, line: &TraceLine) -> Result<Vec<u8>, Oom>
     ensures { IfOk result (λ text. text.items ≡ spec.task_node (view scene.now) line.now) }
 {
     let node = node(scene.alloc, &line.line.name)?;
-    let stop = spot_text(scene, line.decl, line.at)?;
     let label = named(scene.alloc, b" [label=\"", &line.line.name)?;
-    let decl = name_of(scene.script, line.decl);
-    let spot = joined(scene.alloc, &[b"\\n", decl, b"\\n", stop.as_slice()])?;
+    let lines = task_lines(scene, line)?;
     joined(
         scene.alloc,
         &[
             b"  ",
             node.as_slice(),
             label.as_slice(),
-            spot.as_slice(),
+            lines.as_slice(),
             fill(&line.line.ending),
         ],
     )
@@ -153,21 +181,61 @@ fn wait_edge(alloc: Global, members: &Members, name: &Name, ending: &Ending) -> 
     }
 }
 
+/// The edge from a task to the one from whose end its failure came.
+fn origin_edge(alloc: Global, name: &Name, origin: Option<&TraceLine>) -> Result<Vec<u8>, Oom>
+    ensures { IfOk result (λ text. text.items
+        ≡ spec.origin_edge name.now (option_map (λ line. line.now) origin.entry)) }
+{
+    match origin {
+        Some(line) => edge(
+            alloc,
+            name,
+            &line.line.name,
+            b" [style=dotted, color=salmon];\n",
+        ),
+        None => Ok(Vec::new(alloc)),
+    }
+}
+
+/// The same where the task failed for this cell, which is broken.
+fn origin_edge_of(
+    alloc: Global,
+    lookups: &Lookups,
+    jumps: &[usize],
+    name: &Name,
+    cell: Option<&Name>,
+) -> Result<Vec<u8>, Oom>
+    requires lookups { IsSearchable lookups.now }
+    requires jumps { AreJumps lookups.now.lines.now most_doublings jumps.now }
+    ensures { IfOk result (λ text. text.items ≡ spec.origin_edge_of lookups.now.lines.now name.now
+        (option_map (λ cell. cell.now) cell.entry)) }
+{
+    match cell {
+        Some(cell) => origin_edge(alloc, name, origin(lookups, jumps, cell)),
+        None => Ok(Vec::new(alloc)),
+    }
+}
+
+/// How a promise is drawn that the task owned which stopped so.
+fn promise_style(ending: &Ending) -> &'static [u8]
+    ensures { result.now ≡ spec.promise_style ending.now }
+{
+    match ending {
+        Ending::Waits(_) => b" [shape=ellipse];\n",
+        Ending::Done(_) | Ending::Failed(_) => {
+            b" [shape=ellipse, style=filled, fillcolor=khaki];\n"
+        }
+    }
+}
+
 /// A promise that was never set, and the edge to the task that owned it.
-fn promise_node(alloc: Global, owner: &Name, promise: &Name) -> Result<Vec<u8>, Oom>
-    ensures { IfOk result (λ text. text.items ≡ spec.promise_node owner.now promise.now) }
+fn promise_node(alloc: Global, style: &[u8], owner: &Name, promise: &Name) -> Result<Vec<u8>, Oom>
+    ensures { IfOk result (λ text.
+        text.items ≡ spec.promise_node style.now owner.now promise.now) }
 {
     let node = node(alloc, promise)?;
     let edge = edge(alloc, promise, owner, b" [style=dotted];\n")?;
-    joined(
-        alloc,
-        &[
-            b"  ",
-            node.as_slice(),
-            b" [shape=ellipse];\n",
-            edge.as_slice(),
-        ],
-    )
+    joined(alloc, &[b"  ", node.as_slice(), style, edge.as_slice()])
 }
 
 /// The promises that a task owned where it stopped.
@@ -181,12 +249,13 @@ fn promises(line: &TraceLine) -> &[Name]
 }
 
 /// Each of these promises.
-fn promise_nodes(alloc: Global, owner: &Name, names: &[Name]) -> Result<Vec<u8>, Oom>
-    ensures { IfOk result (λ text. text.items ≡ flat_map (spec.promise_node owner.now) names.now) }
+fn promise_nodes(alloc: Global, style: &[u8], owner: &Name, names: &[Name]) -> Result<Vec<u8>, Oom>
+    ensures { IfOk result (λ text.
+        text.items ≡ flat_map (spec.promise_node style.now owner.now) names.now) }
 {
     let mut text = Vec::new(alloc);
     for name in names {
-        let added = promise_node(alloc, owner, name)?;
+        let added = promise_node(alloc, style, owner, name)?;
         text.extend_from_slice(added.as_slice())?;
     }
     Ok(text)
@@ -197,10 +266,12 @@ fn drawn(
     scene: &Scene,
     lookups: &Lookups,
     members: &Members,
+    jumps: &[usize],
     line: &TraceLine,
 ) -> Result<Vec<u8>, Oom>
     requires lookups { IsSearchable lookups.now }
     requires members { HasMembers members.now }
+    requires jumps { AreJumps lookups.now.lines.now most_doublings jumps.now }
     ensures { IfOk result (λ text.
         text.items ≡ spec.drawn (view scene.now) lookups.now.lines.now members.now.cycles.now
         line.now) }
@@ -208,7 +279,10 @@ fn drawn(
     let name = &line.line.name;
     let fork = fork_edge(scene.alloc, name, forker(lookups, name))?;
     let wait = wait_edge(scene.alloc, members, name, &line.line.ending)?;
-    let promises = promise_nodes(scene.alloc, name, promises(line))?;
+    let echoed = echoed_by(&line.line.ending);
+    let origin = origin_edge_of(scene.alloc, lookups, jumps, name, echoed)?;
+    let style = promise_style(&line.line.ending);
+    let promises = promise_nodes(scene.alloc, style, name, promises(line))?;
     let node = task_node(scene, line)?;
     joined(
         scene.alloc,
@@ -216,6 +290,7 @@ fn drawn(
             node.as_slice(),
             fork.as_slice(),
             wait.as_slice(),
+            origin.as_slice(),
             promises.as_slice(),
         ],
     )
@@ -226,32 +301,40 @@ fn drawing(
     scene: &Scene,
     lookups: &Lookups,
     members: &Members,
+    jumps: &[usize],
     line: &TraceLine,
 ) -> Result<Vec<u8>, Oom>
     requires lookups { IsSearchable lookups.now }
     requires members { HasMembers members.now }
+    requires jumps { AreJumps lookups.now.lines.now most_doublings jumps.now }
     ensures { IfOk result (λ text.
         text.items ≡ spec.drawing (view scene.now) lookups.now.lines.now members.now.cycles.now
         line.now) }
 {
     if is_drawn(lookups.lines, line) {
-        drawn(scene, lookups, members, line)
+        drawn(scene, lookups, members, jumps, line)
     } else {
         Ok(Vec::new(scene.alloc))
     }
 }
 
 /// What is drawn of each task.
-fn drawings(scene: &Scene, lookups: &Lookups, members: &Members) -> Result<Vec<u8>, Oom>
+fn drawings(
+    scene: &Scene,
+    lookups: &Lookups,
+    members: &Members,
+    jumps: &[usize],
+) -> Result<Vec<u8>, Oom>
     requires lookups { IsSearchable lookups.now }
     requires members { HasMembers members.now }
+    requires jumps { AreJumps lookups.now.lines.now most_doublings jumps.now }
     ensures { IfOk result (λ text.
         text.items ≡ flat_map (spec.drawing (view scene.now) lookups.now.lines.now
         members.now.cycles.now) lookups.now.lines.now) }
 {
     let mut text = Vec::new(scene.alloc);
     for line in lookups.lines {
-        let added = drawing(scene, lookups, members, line)?;
+        let added = drawing(scene, lookups, members, jumps, line)?;
         text.extend_from_slice(added.as_slice())?;
     }
     Ok(text)
@@ -293,7 +376,8 @@ pub fn dot_text(scene: &Scene, lookups: &Lookups, members: &Members) -> Result<V
         text.items ≡ spec.dot_text (view scene.now) lookups.now.lines.now
         members.now.cycles.now) }
 {
-    let tasks = drawings(scene, lookups, members)?;
+    let jumps = jumps_of(scene.alloc, lookups)?;
+    let tasks = drawings(scene, lookups, members, jumps.as_slice())?;
     let more = undrawn_node(scene.alloc, undrawn(lookups.lines))?;
     let head = b"digraph tasks {\n  node [shape=box];\n";
     joined(

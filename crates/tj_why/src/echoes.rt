@@ -13,8 +13,9 @@ use tj_base::{Cause, Name, Oom};
 use tj_mean::Ending;
 use tj_trace::TraceLine;
 
-/// How often the steps are doubled: each of 2 ^ 20 cells can be a task.
-const MOST_DOUBLINGS: usize = 20;
+/// How often the steps are doubled: a run of 2 ^ 20 cells has 2 ^ 21 + 1 rounds, and each step comes to
+/// an earlier one.
+const MOST_DOUBLINGS: usize = 21;
 
 /// The cell whose being broken is the cause of a failure.
 fn echoed(cause: &Cause) -> Option<&Name>
@@ -78,7 +79,7 @@ fn doubled(alloc: Global, jumps: &[usize]) -> Result<Vec<usize>, Oom>
     Ok(more)
 }
 
-/// The jumps of as many steps as there can be tasks.
+/// The jumps of as many steps as there can be rounds.
 pub fn jumps_of(alloc: Global, lookups: &Lookups) -> Result<Vec<usize>, Oom>
     requires lookups { IsSearchable lookups.now }
     ensures { IfOk result (λ jumps.

@@ -3,9 +3,13 @@ ghost use Rattle.std.specs.Prelude.{ℕ, ◌≡◌, Bool, List, String};
 ghost use Rattle.std.specs.declared.alloc.Global.{Global};
 ghost use Rattle.tj_command.specs.declared.status.Status.{Status};
 ghost use Rattle.tj_eval.specs.Stands.{PlacedState};
+ghost use Rattle.tj_why.specs.CellsTold.{CellsAreToldRight};
 ghost use Rattle.tj_why.specs.Explanations.{CycleOwnersAreNext, FindingsTellEachOnce};
 ghost use Rattle.tj_why.specs.Explanations.{NothingIsFoundWhereFine, WaitsLeadToToldCycles};
+ghost use Rattle.tj_why.specs.Origins.{EchoesHaveOrigins, EchoesNameEarlierCells};
 ghost use Rattle.tj_why.specs.Positions.{TasksAreToldRight};
+ghost use Rattle.tj_why.specs.TasksTold.{TasksAreOfHistories};
+ghost use Rattle.tj_why.specs.ToldFindings.{TextsTellFindings};
 ghost use Rattle.tj_why.specs.WhyOutput.{IsOutput};
 
 use tj_body::waits_lead_to_a_cycle;
@@ -46,8 +50,8 @@ pub fn cycle_owners_are_next()
 
 /// What a task that is told to wait waits for has an owner, and leads to a cycle that is told.
 pub fn waits_lead_to_told_cycles()
-    // Law: in a run that isn't full, what a task that is told to wait waits for has an owner, which
-    // is told, and leads to a member of a cycle that is told.
+    // Law: in a run that isn't full, waits lead from a task that is told to wait to a member of a
+    // cycle that is told. The owner that is told owns the cell for which the task waits.
     ensures { (strict : Bool) (root : PlacedState) → WaitsLeadToToldCycles strict root }
 {
     waits_lead_to_a_cycle::<ScriptBody>();
@@ -61,3 +65,46 @@ pub fn tasks_are_told_right()
     // root. Each of these statements has a position.
     ensures { TasksAreToldRight }
 {}
+
+/// Each echo that is told has an origin, which echoes nothing.
+pub fn echoes_have_origins()
+    // Law: in a run of at most 2 ^ 20 cells each echo that is told has an origin. That is told as a
+    // failure for no broken cell, or it ended and is told to owe a promise. Steps back lead to it, each
+    // of them from a task that failed for a broken cell to the task whose end broke that.
+    ensures { (strict : Bool) (root : PlacedState) → EchoesHaveOrigins strict root }
+{}
+
+/// A failure for a broken cell names one that was broken in the round before.
+pub fn echoes_name_earlier_cells()
+    // Law: a task that has failed for a broken cell in the history of some round names one that was
+    // broken in the round before.
+    ensures { (strict : Bool) (root : PlacedState) → EchoesNameEarlierCells strict root }
+{}
+
+/// Each task that a finding tells is told to have stopped as it did, where it stood then.
+pub fn tasks_are_of_histories()
+    // Law: each task that a finding tells is told to have ended, failed or waited as its history
+    // did, and at the statement to which the history of the body that knows its stand has come in
+    // the end.
+    ensures { (strict : Bool) (root : PlacedState) → TasksAreOfHistories strict root }
+{}
+
+/// Each cell that a finding tells is told with the statement that made it.
+pub fn cells_are_told_right()
+    // Law: in a run from the body of `main` on that isn't full, each cell that a finding tells, the
+    // tasks among them, but the root's result, is told with a `new` of the script, or a `fork`, which
+    // has a position. It is the statement at which the history of the task that made the cell stood
+    // as it made it.
+    ensures { CellsAreToldRight }
+{}
+
+/// What is told in words of a run is a list of findings, which explains the run.
+pub fn texts_tell_findings()
+    // Law: an output in words whose status is that of an outcome is of a script. It tells a list of
+    // findings, which leaves out nothing but members of a long cycle, or where the list is empty that
+    // nothing went wrong. The list is empty exactly where the status says so. What the laws above say
+    // of lists of findings holds of this list.
+    ensures { TextsTellFindings }
+{
+    waits_lead_to_told_cycles();
+}

@@ -86,7 +86,7 @@ pub fn breaker(lookups: &Lookups, cell: &Name) -> Option<usize>
     ensures { IsNumberOf lookups.now.lines.now result
         (echoes.breaker lookups.now.lines.now cell.now) }
 {
-    number_of(lookups.lines, cell.parts()).or(owner_number(lookups, cell))
+    owner_number(lookups, cell).or(number_of(lookups.lines, cell.parts()))
 }
 
 /// The statement that made the cell with this name.

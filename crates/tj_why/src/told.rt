@@ -13,11 +13,15 @@ ghost use Rattle.tj_syntax.specs.Faults.{IsScript, kinds_of};
 ghost use Rattle.tj_syntax.specs.View as view;
 ghost use Rattle.tj_trace.specs.TraceLaws.{script_program};
 ghost use Rattle.tj_why.specs.Carets as carets;
+ghost use Rattle.tj_why.specs.WhyOutput as outputs;
 ghost use Rattle.tj_why.specs.WhyOutput.{IsCommandOutput, IsToldRun};
+ghost use Rattle.tj_why.specs.WhyTexts.{fine_text};
 
 use crate::caret::fault_text;
 use crate::line::WhyCommand;
+use crate::telling::Telling;
 use crate::why::why_text;
+use crate::why_lines::fine_text;
 use std::alloc::Global;
 use tj_base::Oom;
 use tj_command::{Limits, Output, Status, full_line, status_of};
@@ -104,8 +108,56 @@ fn told_script(
     }
 }
 
-// What is told of an outcome of the run with this root.
+// What is told of an outcome of the run with this root. One that isn't marked has a trace for a
+// picture alone.
 fn told_outcome(
+    alloc: Global,
+    command: WhyCommand,
+    tokens: &[Token],
+    script: &Script,
+    root: &PlacedBody,
+    outcome: &Outcome,
+) -> Result<Output, Oom>
+    requires limits { AreLimits command.limits }
+    requires root { IsFresh placed_places placed_awaits placed_left 1 root.now }
+    requires fits { ¬ IsFull (script_program command.limits.strict root.now)
+        command.limits.cells }
+    requires outcome { IsOutcome (meaning (script_program command.limits.strict root.now)
+        command.limits.cells) outcome.now }
+    ensures { IfOk result (λ output. IsToldRun command (view.script script.now) tokens.now
+        root.now output.status output.text.items) }
+{
+    if tells_lines(command.telling, marked(outcome)) {
+        told_traced(alloc, command, tokens, script, root, outcome)
+    } else {
+        told_fine(alloc, outcome)
+    }
+}
+
+// Whether the lines of the trace are looked into.
+fn tells_lines(telling: Telling, marked: bool) -> bool
+    ensures { result ≡ outputs.tells_lines telling marked }
+{
+    match telling {
+        Telling::Wrong | Telling::All => marked,
+        Telling::Dot => true,
+    }
+}
+
+// What is told of a run in which nothing went wrong.
+fn told_fine(alloc: Global, outcome: &Outcome) -> Result<Output, Oom>
+    ensures status { IfOk result (λ output. output.status ≡ Status.Clean) }
+    ensures text { IfOk result (λ output.
+        output.text.items ≡ fine_text (length outcome.now.lines)) }
+{
+    Ok(Output {
+        status: Status::Clean,
+        text: fine_text(alloc, outcome.lines.items().len())?,
+    })
+}
+
+// The same by the lines of its trace.
+fn told_traced(
     alloc: Global,
     command: WhyCommand,
     tokens: &[Token],

@@ -236,7 +236,7 @@ fn owed_line(scene: &Scene, promise: &ToldCell, owner: &ToldTask) -> Result<Vec<
 }
 
 /// Why a task failed, in the words of a report.
-fn cause_text(alloc: Global, cause: &Cause) -> Result<Vec<u8>, Oom>
+pub fn cause_text(alloc: Global, cause: &Cause) -> Result<Vec<u8>, Oom>
     ensures { IfOk result (λ text. text.items ≡ reports.cause_text cause.now) }
 {
     match cause {

@@ -5,4 +5,4 @@ use Rattle.tj_why.proofs.dot.promise_nodes.Given as goal
 
 -- the promises so far
 abbrev pub invariant-loop-name : goal.invariant-loop-name
-invariant-loop-name l = l.text.items ≡ flat_map (promise_node l.owner) (take l.name-index l.names)
+invariant-loop-name l = l.text.items ≡ flat_map (promise_node l.style l.owner) (take l.name-index l.names)

@@ -8,7 +8,7 @@ loop-left-preserved c =
     let l = c.loop-left in
     let some = c.loop-left-test.true in
     let few = l.invariant.1 in (
-      doubled_more c.args.lookups.now.lines.now (20 - l.left) (20 - (l.left - 1)) l.jumps.items
+      doubled_more c.args.lookups.now.lines.now (21 - l.left) (21 - (l.left - 1)) l.jumps.items
           c.in_ok-jumps-2.jumps.items
           (c.in_ok-jumps-2.ensures ∙ ap (λ js. map (jump js) js) c.as_slice.ensures.value) (omega arith) l.invariant.0,
       omega arith,
