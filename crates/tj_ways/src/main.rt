@@ -4,6 +4,7 @@
 
 mod bodies;
 mod channels;
+mod knots;
 mod native;
 mod rows;
 mod scripts;
@@ -11,6 +12,7 @@ mod told;
 
 use bodies::handed_over;
 use channels::two_receivers;
+use knots::told_knot;
 use native::{fibonacci, in_a_knot, sum};
 use rows::handed_to_a_child;
 use scripts::{on_a_cycle, position_of_a_fault, which_owe};
@@ -21,7 +23,7 @@ use std::thread::Threads;
 use tj_ports::{StdSink, put_all};
 
 /// What all of them give, where memory lasts.
-fn texts<R: Wait + Threads + Sync + AllocGlobal>(rt: &R) -> Option<[Vec<u8>; 9]> {
+fn texts<R: Wait + Threads + Sync + AllocGlobal>(rt: &R) -> Option<[Vec<u8>; 10]> {
     Some([
         which_owe(rt)?,
         on_a_cycle(rt)?,
@@ -32,6 +34,7 @@ fn texts<R: Wait + Threads + Sync + AllocGlobal>(rt: &R) -> Option<[Vec<u8>; 9]>
         in_a_knot(rt)?,
         fibonacci(rt)?,
         sum(rt)?,
+        told_knot(rt)?,
     ])
 }
 

@@ -1,0 +1,242 @@
+-- The way from a cell up to the root, by PARENT and KID.
+use Rattle.std.proofs.Common.{◌≡◌, ℕ, zero, suc, ◌-◌, ◌<◌, ◌≤◌, List, [], ◌∷◌, ◌++◌, Option, Result, Ok, Err}
+use Rattle.std.proofs.Common.{IfOk, length}
+use Rattle.std.proofs.Common.{reverse, refl, sym, ap, ◌∙◌, subst, inl, inr, arith}
+use Rattle.std.proofs.Common.{length-append}
+use Rattle.std.proofs.Math.Option.{some-injective, some-ne-none}
+use Rattle.std.proofs.lemmas.List.{reverse-append}
+use Rattle.tj_base.specs.ForkOrder.{Name, child}
+use Rattle.tj_base.specs.declared.memory.Oom.{Oom}
+use Rattle.tj_body.specs.History.{to_task}
+use Rattle.tj_body.specs.Points.{Begins, IsIn}
+use Rattle.tj_body.specs.declared.point.Reference.{Reference}
+use Rattle.tj_log.specs.Shown.{SeatShown}
+use Rattle.tj_words.proofs.Stores.SeatLists.{inside}
+use Rattle.tj_words.specs.LawParts.ShownState.{reference_of}
+use Rattle.tj_words.specs.LawParts.TreeWords.{IsCell}
+use Rattle.tj_words.specs.SeatViews.SeatSteps.{IsSameSeat}
+use Rattle.tj_words.specs.SeatViews.SeenWords.{FindsWord, MayReadTree, seen_word}
+use Rattle.tj_words.specs.declared.offsets.Once.TheVariants as once
+use Rattle.tj_words.specs.declared.record.Rec.{Rec}
+use Rattle.tj_words.specs.declared.view.View.{View}
+use Rattle.tj_told.specs.Observers.{KnowsName, LooksOn, Observes}
+use Rattle.tj_words.specs.declared.table.Laid.{Laid}
+use Rattle.std.proofs.lemmas.List.{append_assoc}
+use Rattle.std.proofs.Common.{◌≢◌}
+use Rattle.tj_log.specs.declared.entry.Entry.{Entry}
+use Rattle.tj_words.specs.declared.view.SeenWord.{SeenWord}
+use Rattle.tj_told.specs.ToldLoads.{GrowsTo}
+use Rattle.tj_told.specs.ToldLinks.{ClimbsTo, SeesName}
+use Rattle.tj_told.proofs.Looking.{Keeps, keeps_itself, keeps_on, keeps_word}
+
+-- what the list of all cells has at an index
+cell_reference : (born : List Reference) (c : ℕ) (x : Reference) → IsCell born c x → reference_of born c ≡ x
+cell_reference [] zero x h = absurd (some-ne-none x (sym h))
+cell_reference [] (suc c) x h = absurd (some-ne-none x (sym h))
+cell_reference (y ∷ born) zero x h = some-injective y x h
+cell_reference (y ∷ born) (suc c) x h = cell_reference born c x h
+
+-- a cell of a list is one of each longer list
+cell_in_front : (xs more : List Reference) (c : ℕ) (x : Reference) → IsCell xs c x → IsCell (xs ++ more) c x
+cell_in_front [] more c x h = absurd (some-ne-none x (sym h))
+cell_in_front (y ∷ xs) more zero x h = h
+cell_in_front (y ∷ xs) more (suc c) x h = cell_in_front xs more c x h
+
+pub cell_on : (xs ys : List Reference) (c : ℕ) (x : Reference) → Begins xs ys → IsCell xs c x → IsCell ys c x
+cell_on xs ys c x b h = subst (λ z. IsCell z c x) (sym b.1) (cell_in_front xs b.0 c x h)
+
+moved : {A : Type 0} (xs : List A) (x : A) (ys : List A) → xs ++ x ∷ ys ≡ (xs ++ x ∷ []) ++ ys
+moved [] x ys = refl
+moved (z ∷ zs) x ys = ap (λ l. z ∷ l) (moved zs x ys)
+
+-- a log with one step more goes on
+pub grows_by : {a b : List Entry} {e : Entry} → b ≡ e ∷ a → GrowsTo a b
+grows_by {a} {b} {e} h = (e ∷ [], h)
+
+-- a log that goes on twice goes on
+pub grows_on : (a b c : List Entry) → GrowsTo a b → GrowsTo b c → GrowsTo a c
+grows_on a b c p q = (
+  q.0 ++ p.0,
+  q.1 ∙ (ap (λ l. q.0 ++ l) p.1 ∙ sym (append_assoc q.0 p.0 a)),
+)
+
+-- a climb goes on by a step, and stands where more is seen
+climbs_more : (seen : List SeenWord) (c : ℕ) (ks : List ℕ) (at p k : ℕ) → ClimbsTo seen c ks at → at ≢ 0
+    → IsIn (seen_word at once.Parent p) seen → IsIn (seen_word at once.Kid k) seen
+    → ClimbsTo seen c (ks ++ k ∷ []) (p - 1)
+climbs_more seen c [] at p k h n i j =
+    subst (λ z. ClimbsTo seen z (k ∷ []) (p - 1)) (sym h) (n, (p, i, j, refl))
+climbs_more seen c (x ∷ ks) at p k h n i j =
+    (h.0, (h.1.0, h.1.1, h.1.2, climbs_more seen (h.1.0 - 1) ks at p k h.1.3 n i j))
+
+climbs_where : (seen more : List SeenWord) → ((w : SeenWord) → IsIn w seen → IsIn w more) → (c : ℕ) (ks : List ℕ)
+    (at : ℕ) → ClimbsTo seen c ks at → ClimbsTo more c ks at
+climbs_where seen more f c [] at h = h
+climbs_where seen more f c (k ∷ ks) at h = (
+  h.0,
+  (
+    h.1.0,
+    f (seen_word c once.Parent h.1.0) h.1.1,
+    f (seen_word c once.Kid k) h.1.2,
+    climbs_where seen more f (h.1.0 - 1) ks at h.1.3,
+  ),
+)
+
+-- a name that was seen is seen where more is
+pub name_where : (seen more : List SeenWord) → ((w : SeenWord) → IsIn w seen → IsIn w more) → (c : ℕ) (q : Name)
+    → SeesName seen c q → SeesName more c q
+name_where seen more f c q h = (h.0, climbs_where seen more f c h.0 0 h.1, h.2)
+
+module _ {B : Type 0} where
+  -- the seat has come up from cell c to this one: the name of c is that of this cell and the numbers so far, the last
+  -- one first
+  pub record Climbs (cells : ℕ) (old now : SeatShown (Option (Rec B)) (View B)) (c at : ℕ) (parts : List ℕ) : Type 0
+    where
+      pub same : IsSameSeat old now
+      pub keeps : Keeps old.me.0 now.me.0
+      pub below : at < cells
+      pub may : MayReadTree at now.me.0
+      pub from : Reference
+      pub here : Reference
+      pub from_is : IsCell now.me.0.born c from
+      pub here_is : IsCell now.me.0.born at here
+      pub name : from.name ≡ here.name ++ reverse parts
+      pub log : GrowsTo old.log now.log
+      pub climbs : ClimbsTo now.me.0.seen c parts at
+
+  pub same_on : (a b c : SeatShown (Option (Rec B)) (View B)) → IsSameSeat a b → IsSameSeat b c → IsSameSeat a c
+  same_on a b c p q = (q.0 ∙ p.0, q.1 ∙ p.1, q.2 ∙ p.2)
+
+  -- looks on looks
+  pub looks_itself : (a : SeatShown (Option (Rec B)) (View B)) → LooksOn a a
+  looks_itself a = let k = keeps_itself a.me.0 in record {
+    same = (refl, refl, refl);
+    idle = k.idle;
+    more = k.more;
+    log = ([], refl);
+  }
+
+  pub looks_then : (a b c : SeatShown (Option (Rec B)) (View B)) → LooksOn a b → IsSameSeat b c → Keeps b.me.0 c.me.0
+      → GrowsTo b.log c.log → LooksOn a c
+  looks_then a b c p same k grows =
+      let all = keeps_on a.me.0 b.me.0 c.me.0 (record { idle = p.idle; more = p.more }) k in
+      record {
+        same = same_on a b c p.same same;
+        idle = all.idle;
+        more = all.more;
+        log = grows_on a.log b.log c.log p.log grows;
+      }
+
+  pub looks_on : (a b c : SeatShown (Option (Rec B)) (View B)) → LooksOn a b → LooksOn b c → LooksOn a c
+  looks_on a b c p q = looks_then a b c p q.same (record { idle = q.idle; more = q.more }) q.log
+
+  -- an observer's seat that has looked on is an observer's
+  pub observes_on : (laid : Laid B) (a b : SeatShown (Option (Rec B)) (View B)) → Observes laid a → LooksOn a b
+      → Observes laid b
+  observes_on laid a b o p = record {
+    table = p.same.0 ∙ o.table;
+    idle = p.idle o.idle;
+    slots = p.same.2 ∙ o.slots;
+    root = cell_on a.me.0.born b.me.0.born 0 (to_task []) p.more.born o.root;
+  }
+
+  -- PARENT and KID of a cell were loaded, one after the other
+  module _ (cells at p k : ℕ) (now mid new : SeatShown (Option (Rec B)) (View B)) (first : IsSameSeat now mid)
+      (parent : FindsWord cells once.Parent at p now.me.0 mid.me.0) (second : IsSameSeat mid new)
+      (kid : FindsWord cells once.Kid at k mid.me.0 new.me.0)
+      (logged : GrowsTo now.log mid.log) (then : GrowsTo mid.log new.log) where
+    both_keep : Keeps now.me.0 new.me.0
+    both_keep = keeps_on now.me.0 mid.me.0 new.me.0 (keeps_word cells once.Parent at p now.me.0 mid.me.0 parent)
+        (keeps_word cells once.Kid at k mid.me.0 new.me.0 kid)
+
+    parent_in : IsIn (seen_word at once.Parent p) new.me.0.seen
+    parent_in = subst (λ (z : View B). IsIn (seen_word at once.Parent p) z.seen) (sym kid.view)
+        (inr (subst (λ (z : View B). IsIn (seen_word at once.Parent p) z.seen) (sym parent.view) (inl refl)))
+
+    kid_in : IsIn (seen_word at once.Kid k) new.me.0.seen
+    kid_in = subst (λ (z : View B). IsIn (seen_word at once.Kid k) z.seen) (sym kid.view) (inl refl)
+
+    -- the name of the cell is that of its maker and its number
+    maker_is : (here : Reference) → IsCell now.me.0.born at here → 0 < at
+        → (y : Reference) × IsCell new.me.0.born (p - 1) y × (here.name ≡ child y.name k)
+    maker_is here h later = kid.names.named at p k here (λ e. let z : at ≡ 0 = e in omega arith) parent_in kid_in
+        (cell_on now.me.0.born new.me.0.born at here both_keep.more.born h)
+
+    -- which is shorter
+    pub shorter : (here : Reference) → IsCell now.me.0.born at here → 0 < at → (next : ℕ) → next ≡ p - 1
+        → length (reference_of new.me.0.born next).name < length (reference_of now.me.0.born at).name
+    shorter here h later next e =
+        let m = maker_is here h later in
+        let long = ap (λ (q : Name). length q) m.2 ∙ length-append m.0.name (k ∷ []) in
+        subst (λ n. length (reference_of new.me.0.born n).name < length (reference_of now.me.0.born at).name) (sym e)
+        (subst (λ (z : Reference). length z.name < length (reference_of now.me.0.born at).name)
+        (sym (cell_reference new.me.0.born (p - 1) m.0 m.1))
+        (subst (λ (z : Reference). length m.0.name < length z.name)
+        (sym (cell_reference now.me.0.born at here h)) (omega arith)))
+
+    named_next : (n next : ℕ) → p ≡ n → next ≡ n - 1 → MayReadTree next new.me.0
+    named_next zero next e f = inl (omega arith)
+    named_next (suc q) next e f = let z : p ≡ suc next = omega arith in inr (inr (
+      seen_word at once.Parent p,
+      parent_in,
+      (inl refl, z),
+    ))
+
+    module _ (old : SeatShown (Option (Rec B)) (View B)) (c : ℕ) (parts : List ℕ)
+        (i : Climbs cells old now c at parts) where
+      -- the seat knows what it knew
+      pub looked : LooksOn old new
+      looked = let k = keeps_on old.me.0 now.me.0 new.me.0 i.keeps both_keep in record {
+        same = same_on old now new i.same (same_on now mid new first second);
+        idle = k.idle;
+        more = k.more;
+        log = grows_on old.log now.log new.log i.log (grows_on now.log mid.log new.log logged then);
+      }
+
+      -- and has come up to the maker
+      pub climbs_on : 0 < at → (next : ℕ) → next ≡ p - 1 → (more : List ℕ) → more ≡ parts ++ k ∷ []
+          → Climbs cells old new c next more
+      climbs_on later next e more pushed = let m = maker_is i.here i.here_is later in record {
+        same = looked.same;
+        keeps = record { idle = looked.idle; more = looked.more };
+        below = let room = inside new.me.0.born (p - 1) m.0 m.1 in
+            let few = subst (λ (z : View B). length z.born ≤ cells) (sym kid.view) kid.all.few in omega arith;
+        may = named_next p next refl e;
+        from = i.from;
+        here = m.0;
+        from_is = cell_on now.me.0.born new.me.0.born c i.from both_keep.more.born i.from_is;
+        here_is = subst (λ n. IsCell new.me.0.born n m.0) (sym e) m.1;
+        name = i.name
+            ∙ ap (λ (n : Name). n ++ reverse parts) m.2
+            ∙ sym (moved m.0.name k (reverse parts))
+            ∙ ap (λ l. m.0.name ++ l) (sym (reverse-append parts (k ∷ [])) ∙ ap reverse (sym pushed));
+        log = looked.log;
+        climbs = subst (λ l. ClimbsTo new.me.0.seen c l next) (sym pushed)
+            (subst (ClimbsTo new.me.0.seen c (parts ++ k ∷ [])) (sym e)
+            (climbs_more new.me.0.seen c parts at p k
+            (climbs_where now.me.0.seen new.me.0.seen both_keep.more.seen c parts at i.climbs)
+            (λ z. let y : at ≡ 0 = z in omega arith) parent_in kid_in));
+      }
+
+  -- at the root
+  module _ (cells : ℕ) (old now : SeatShown (Option (Rec B)) (View B)) (c at : ℕ) (parts : List ℕ)
+      (i : Climbs cells old now c at parts) (root : IsCell old.me.0.born 0 (to_task [])) (least : at ≤ 0) where
+    -- the numbers so far are the name
+    whole : i.from.name ≡ reverse parts
+    whole =
+        let z : at ≡ 0 = omega arith in
+        let r = cell_on old.me.0.born now.me.0.born 0 (to_task []) i.keeps.more.born root in
+        let here = subst (λ n. IsCell now.me.0.born n i.here) z i.here_is in
+        let is : i.here ≡ to_task [] = some-injective i.here (to_task []) (sym here ∙ r) in
+        i.name ∙ ap (λ (x : Reference). x.name ++ reverse parts) is
+
+    pub climbed : (r : Result Name Oom) (text : List ℕ) → text ≡ reverse parts → IfOk r (λ q. q ≡ text)
+        → IfOk r (λ q. KnowsName c q now.me.0)
+    climbed (Ok q) text e h = (i.from, i.from_is, whole ∙ sym e ∙ sym h)
+    climbed (Err f) text e h = tt
+
+    pub climbed_seen : (r : Result Name Oom) (text : List ℕ) → text ≡ reverse parts → IfOk r (λ q. q ≡ text)
+        → IfOk r (λ q. SeesName now.me.0.seen c q)
+    climbed_seen (Ok q) text e h =
+        let z : at ≡ 0 = omega arith in (parts, subst (ClimbsTo now.me.0.seen c parts) z i.climbs, h ∙ e)
+    climbed_seen (Err f) text e h = tt

@@ -1,0 +1,12 @@
+pub mod Looking
+pub mod Climbing
+pub mod Observing
+pub mod Hearings
+pub mod TakenSeats
+pub mod RunFaults
+pub mod Loaded
+pub mod ClosedRounds
+pub mod ToldRounds
+pub mod SeenRounds
+pub mod LoggedRounds
+pub mod LeastLinks

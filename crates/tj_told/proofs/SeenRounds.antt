@@ -1,0 +1,135 @@
+-- A round that was seen is one of the outcome's cycles.
+use Rattle.std.proofs.Common.{◌≡◌, ◌≢◌, ◌-◌, ◌<◌, ℕ, zero, suc, Bool, true}
+use Rattle.std.proofs.Common.{List, [], ◌∷◌, ◌++◌, Option, refl, sym, ap, ◌∙◌}
+use Rattle.std.proofs.Common.{subst, inl, inr, arith, map, length, min, reverse}
+use Rattle.std.proofs.Math.Option.{some-injective, some-ne-none}
+use Rattle.std.proofs.lemmas.List.{reverse-append}
+use mathlib.Core.Option.{some}
+use lib.ListN.{get_elem?}
+use Rattle.atomic_table.specs.Table.{State}
+use Rattle.tj_base.specs.ForkOrder.{Name, child}
+use Rattle.tj_body.specs.History.{to_task}
+use Rattle.tj_body.specs.Points.{IsIn}
+use Rattle.tj_body.specs.Programs.{Program}
+use Rattle.tj_body.specs.Rounds.{meaning}
+use Rattle.tj_body.specs.declared.point.Reference.{Reference}
+use Rattle.tj_log.specs.Shown.{SeatShown}
+use Rattle.tj_log.specs.Runs.{took_of}
+use Rattle.tj_log.specs.declared.entry.Entry.{Entry}
+use Rattle.tj_mean.specs.Outcomes.{IsOutcome}
+use Rattle.tj_mean.specs.declared.outcome.Link.{Link}
+use Rattle.tj_mean.specs.declared.outcome.Outcome.{Outcome}
+use Rattle.tj_words.specs.AtRest.ClosedCells as closed
+use Rattle.tj_words.specs.AtRest.EndedRuns.{EndsRun}
+use Rattle.tj_words.specs.AtRest.RestMeaning.{AreWordsOf}
+use Rattle.tj_words.specs.AtRest.ShownCells.{cell_of, maker_in}
+use Rattle.tj_words.specs.CallLaws.RestedRuns.{Ruled, last_moment}
+use Rattle.tj_words.specs.Law.{Law}
+use Rattle.tj_words.specs.LawParts.Contents.{contents_of, drawn_in}
+use Rattle.tj_words.specs.LawParts.OnceWords.{Stands}
+use Rattle.tj_words.specs.LawParts.TreeWords.{IsCell}
+use Rattle.tj_words.specs.SeatViews.SeenWords.{seen_word}
+use Rattle.tj_words.specs.Words.Offsets.{once_at, word}
+use Rattle.tj_words.specs.declared.closed.RestCell.{RestCell}
+use Rattle.tj_words.specs.declared.offsets.Once.{Once}
+use Rattle.tj_words.specs.declared.offsets.Once.TheVariants as once
+use Rattle.tj_words.specs.declared.record.Rec.{Rec}
+use Rattle.tj_words.specs.declared.table.Key.{Key}
+use Rattle.tj_words.specs.declared.view.SeenWord.{SeenWord}
+use Rattle.tj_words.specs.declared.view.View.{View}
+use Rattle.tj_words.proofs.Lemmas.{at_index}
+use Rattle.tj_words.proofs.Prelude.{at_map}
+use Rattle.tj_words.proofs.Meaning.MeantCycles.{one_meant, same_names}
+use Rattle.tj_laws.specs.TableWaits.{EveryMoment}
+use Rattle.tj_told.proofs.ClosedRounds.{round_meant, turns_closed}
+use Rattle.tj_told.proofs.Loaded.{round_stands}
+use Rattle.tj_told.proofs.ToldRounds.{cycle_told}
+use Rattle.tj_told.specs.ToldLoads.{Turn}
+use Rattle.tj_told.specs.ToldLinks.{AreLinksOf, AreSeen, ClimbsTo, IsNamed, IsSeenRound, SeesName}
+
+-- the maker that a word PARENT names
+maker_number : (p : ℕ) → (maker_in p).0 ≡ p - 1
+maker_number zero = refl
+maker_number (suc p) = omega arith
+
+module _ (words : List ℕ) (drawn : ℕ) (shown : List RestCell) (born : List Reference)
+    (named : closed.AreNamed shown born)
+    (each : (c : ℕ) → c < drawn → closed.IsShown shown c (cell_of words c))
+    (there : (c : ℕ) → c < drawn → c < length born) (seen : List SeenWord)
+    (stands : (c : ℕ) (f : Once) (n : ℕ) → IsIn (seen_word c f n) seen → (c < drawn) × (word words (once_at c f) ≡ n))
+  where
+    -- what was seen tells the name
+    climbed_name : (ks : List ℕ) (c : ℕ) → ClimbsTo seen c ks 0 → IsNamed born c (reverse ks)
+    climbed_name [] c h = (to_task [], subst (λ z. IsCell born z (to_task [])) (sym h) named.root, refl)
+    climbed_name (k ∷ ks) c h =
+        let p = h.1.0 in
+        let parent = stands c once.Parent p h.1.1 in
+        let kid = stands c once.Kid k h.1.2 in
+        let r = at_index born c (to_task []) (there c parent.0) in
+        let by = named.named c (cell_of words c) _ h.0 (each c parent.0) r in
+        let maker = climbed_name ks (p - 1) h.1.3 in
+        let at : (cell_of words c).parent.0 ≡ p - 1 = ap (λ m. (maker_in m).0) parent.1 ∙ maker_number p in
+        let same : by.1.0 ≡ maker.0 =
+        some-injective by.1.0 maker.0 (sym by.1.1 ∙ (ap (get_elem? born) at ∙ maker.1)) in (
+          _,
+          r,
+          by.1.2
+              ∙ (ap (λ (m : Reference). child m.name (cell_of words c).kid) same
+              ∙ (ap (λ q. child q (cell_of words c).kid) maker.2
+              ∙ (ap (λ m. child (reverse ks) m) kid.1
+              ∙ sym (reverse-append (k ∷ []) ks)))),
+        )
+
+    links_named : (xs : List Turn) (ls : List Link) → AreLinksOf (SeesName seen) xs ls → AreLinksOf (IsNamed born) xs ls
+    links_named [] [] h = tt
+    links_named [] (l ∷ ls) h = absurd h
+    links_named (x ∷ xs) [] h = absurd h
+    links_named (x ∷ xs) (l ∷ ls) h = (
+      subst (IsNamed born x.task) (sym h.0.2) (climbed_name h.0.0 x.task h.0.1),
+      subst (IsNamed born x.cell.0) (sym h.1.2) (climbed_name h.1.0 x.cell.0 h.1.1),
+      links_named xs ls h.2,
+    )
+
+module _ {B : Type 0} (every : EveryMoment B) (program : Bool → B → Program B) (limit : ℕ) (strict : Bool) (root : B)
+    (seat : SeatShown (Option (Rec B)) (View B)) (cells : List RestCell) (records : List (Option (Rec B)))
+    (e : EndsRun program limit strict root seat cells records) (born : List Reference)
+    (words : AreWordsOf (program strict root) limit born cells) where
+  abbrev end : Ruled program e.key
+  end = last_moment program e.key e.run.first e.run.later
+
+  law : Law (program e.key.strict e.key.root.value) e.key.cells (contents_of e.last)
+  law = subst (λ (z : State (Option (Rec B)) (View B)).
+      Law (program e.key.strict e.key.root.value) e.key.cells (contents_of z)) e.run.end end.rule.law
+
+  abbrev drawn : ℕ
+  drawn = drawn_in e.key.cells (contents_of e.last)
+
+  all : length cells ≡ drawn
+  all = e.shown.all ∙ sym (ap (min (contents_of e.last).words.count) e.key_cells)
+
+  each : (c : ℕ) → c < drawn → closed.IsShown cells c (cell_of e.last.words c)
+  each c l = e.shown.each c (subst (λ n. c < n) (sym all) l)
+
+  there : (c : ℕ) → c < drawn → c < length born
+  there c l = subst (λ n. c < n) (sym (words.named.all ∙ all)) l
+
+  stands : (c : ℕ) (f : Once) (n : ℕ) → IsIn (seen_word c f n) seat.me.0.seen
+      → (c < drawn) × (word e.last.words (once_at c f) ≡ n)
+  stands c f n i =
+      let s = law.once_words.stands seat.id seat.me.0.seen
+      (at_map (λ (z : View B). z.seen) e.last.views seat.id seat.me.0 e.seat_is) (seen_word c f n) i in
+      (s.drawn_cell, s.value)
+
+  -- so what was told early is one of the outcome's cycles
+  pub seen_told : (o : Outcome) → IsOutcome (meaning (program strict root) limit) o → (log : List Entry)
+      → IsIn log seat.took → (c : List Link) → IsSeenRound log seat.me.0.seen c → IsIn c o.cycles
+  seen_told o is log i c r =
+      let turns = round_stands every program e.key e.last e.run seat.id log (subst (IsIn log) e.took i) r.task r.turns
+      r.round in
+      let closed = turns_closed e.last e.key.cells law cells each r.turns turns in
+      let links = links_named e.last.words drawn cells born words.named each there seat.me.0.seen stands r.turns r.links
+      r.named in
+      let m = round_meant
+      (program strict root) limit cells born words r.task r.turns r.links r.round.back closed links in
+      cycle_told (meaning (program strict root) limit) (one_meant (program strict root) limit cells born words)
+      (same_names (program strict root) limit cells born words) o is r.links c m.0 m.1 r.least

@@ -1,0 +1,61 @@
+-- How the workers leave once their seat has taken in that of the observer, and that an observer may go to another
+-- thread.
+use Rattle.std.proofs.Common.{◌≡◌, ℕ, ◌+◌, ◌-◌, ◌*◌, ◌≤◌, ◌||◌, Bool, [], ◌∷◌, Option, refl, sym, ap, ◌∙◌, subst, arith}
+use denote.Param.Send.{IsSend, recorded_send, struct_send}
+use denote.RattleType.{RattleType}
+use denote.Struct.Declared.{row, shape}
+use denote.Struct.Tuple.{type_at}
+use mir.Syntax.{Sym}
+use Rattle.tj_log.specs.Shown.{SeatShown}
+use Rattle.tj_body.specs.Programs.{Program}
+use Rattle.tj_words.specs.declared.record.Rec.{Rec}
+use Rattle.tj_words.specs.declared.view.View.{View}
+use Rattle.tj_words.specs.LawParts.Lots.{least_lot}
+use Rattle.tj_words.specs.SeatViews.SeatSteps.{SeatMe}
+use Rattle.tj_words.specs.SeatViews.Views.{IsIdle, both, left_half}
+use Rattle.tj_run.specs.declared.why.Why.{Why}
+use Rattle.tj_run.specs.declared.why.Left.{Left}
+use Rattle.tj_run.specs.declared.why.Left.TheVariants as leaving
+use Rattle.tj_run.specs.Leaving.{HasRested, HasStopped, Leaves}
+use Rattle.tj_run.proofs.Runs.TurnSteps.{stopped_since}
+
+-- two lots are the one that was split
+sums : (whole a b : ℕ) → 2 * least_lot ≤ whole → a ≡ whole - least_lot → b ≡ least_lot → a + b ≡ whole
+sums whole a b room e f = omega arith
+
+module _ {B : Type 0} (program : Bool → B → Program B) (v : View B) (room : 2 * least_lot ≤ v.lot) where
+  -- workers at rest are at rest once their seat has taken in another idle one
+  rested_taken : (worked other now : SeatMe B) → HasRested (left_half v) worked → other.0.lot ≡ least_lot
+      → now ≡ (both worked.0 other.0, []) → IsIdle now.0 → HasRested v now
+  rested_taken worked other now h lot e idle = record {
+    rested = ap (λ (m : SeatMe B). m.0.rested) e ∙ ap (λ b. b || other.0.rested) h.rested;
+    idle = idle;
+    slots = ap (λ (m : SeatMe B). m.1) e;
+    lot = ap (λ (m : SeatMe B). m.0.lot) e ∙ sums v.lot worked.0.lot other.0.lot room h.lot lot;
+    about = ap (λ (m : SeatMe B). m.0.about) e ∙ h.about;
+  }
+
+  -- the workers, which begin with a half of a seat, leave as the seat says that took in the observer's
+  pub leaves_taken : (worked other now : SeatShown (Option (Rec B)) (View B)) (how was : Left) (mine : View B)
+      → mine ≡ left_half v → Leaves program was mine worked.me → other.me.0.lot ≡ least_lot
+      → (how ≡ leaving.Rested → (was ≡ leaving.Rested) × (now.me ≡ (both worked.me.0 other.me.0, [])) × IsIdle now.me.0)
+      → ((cause : Why) → how ≡ leaving.Stopped cause → (now ≡ worked) × (was ≡ leaving.Stopped cause))
+      → Leaves program how v now.me
+  leaves_taken worked other now leaving.Rested was mine m l lot r s =
+      let taken = r refl in
+      rested_taken worked.me other.me now.me
+      (subst (λ x. Leaves program x (left_half v) worked.me) taken.0
+      (subst (λ x. Leaves program was x worked.me) m l))
+      lot taken.1 taken.2
+  leaves_taken worked other now (leaving.Stopped cause) was mine m l lot r s = let x = s cause refl in
+      subst (λ (z : SeatShown (Option (Rec B)) (View B)). HasStopped program cause v z.me.0) (sym x.0)
+      (stopped_since program v (left_half v) worked.me.0 cause refl
+      (subst (λ z. Leaves program z (left_half v) worked.me) x.1
+      (subst (λ z. Leaves program was z worked.me) m l)))
+
+-- a tuple of six may go to another thread, where its parts may
+pub six_send : (name : Sym) (a b c d e f : RattleType) → IsSend a → IsSend b → IsSend c → IsSend d → IsSend e → IsSend f
+    → IsSend (row (type_at name (a ∷ b ∷ c ∷ d ∷ e ∷ f ∷ [])))
+six_send name a b c d e f sa sb sc sd se sf =
+    let t = type_at name (a ∷ b ∷ c ∷ d ∷ e ∷ f ∷ []) in
+    recorded_send _ _ _ t.to_one (struct_send (shape t) (sa, (sb, (sc, (sd, (se, (sf, tt)))))))

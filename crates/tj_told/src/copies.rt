@@ -1,0 +1,43 @@
+//! Copies of cycles, and the tests whether two are equal, and whether one is among some.
+ghost use Rattle.std.specs.Prelude.{◌≡◌, ◌↔◌, true, IfOk};
+ghost use Rattle.std.specs.List.{list_any};
+ghost use Rattle.tj_body.specs.Points.{IsIn};
+ghost use Rattle.tj_told.specs.ToldCycles.{same_cycle, same_link};
+
+use std::alloc::Global;
+use tj_base::{Items, Oom};
+use tj_mean::{Link, LinkList};
+
+/// An equal cycle.
+pub(crate) fn copy_of(alloc: Global, links: &LinkList) -> Result<LinkList, Oom>
+    ensures { IfOk result (λ copy. copy ≡ links.now) }
+{
+    let mut copy = Vec::new(alloc);
+    for link in links.items() {
+        copy.push(link_copy(alloc, link)?)?;
+    }
+    Ok(Items::of(copy))
+}
+
+/// An equal link.
+fn link_copy(alloc: Global, link: &Link) -> Result<Link, Oom>
+    ensures { IfOk result (λ copy. copy ≡ link.now) }
+{
+    let task = link.task.copy(alloc)?;
+    let cell = link.cell.copy(alloc)?;
+    Ok(Link { task, cell })
+}
+
+/// Whether the cycle is among these.
+pub(crate) fn is_among(links: &LinkList, cycles: &[LinkList]) -> bool
+    ensures { result ≡ list_any (same_cycle links.now) cycles.now }
+{
+    cycles.iter().any(|cycle| are_same(links, cycle))
+}
+
+/// Whether two cycles are equal.
+fn are_same(a: &LinkList, b: &LinkList) -> bool
+    ensures { result ≡ same_cycle a.now b.now }
+{
+    a == b
+}

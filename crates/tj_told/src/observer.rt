@@ -1,0 +1,147 @@
+//! An observer: beside the workers it looks at the phases of the cells that are drawn.
+ghost use Rattle.std.specs.Prelude.{◌≡◌, ◌≢◌, Ok};
+ghost use Rattle.tj_words.specs.SeatViews.SeatSteps.{IsCellOf};
+ghost use Rattle.tj_told.specs.Hearing.{Hears, IsStoppedBy};
+ghost use Rattle.tj_told.specs.Observers.{LooksOn, Observes};
+ghost use Rattle.tj_told.specs.ToldLinks.{AreSeen};
+ghost use Rattle.std.specs.Prelude.{true};
+ghost use Rattle.tj_base.specs.declared.cell.CellId.{CellId};
+ghost use Rattle.tj_events.specs.declared.walk.Way.{Way};
+ghost use Rattle.tj_words.specs.declared.phase.Phase.TheVariants as phase_of;
+ghost use Rattle.tj_words.specs.declared.phase.Walk.TheVariants as walk;
+
+use crate::links::cycle_of;
+use crate::listener::{Goes, Listener};
+use crate::telling::Telling;
+use std::alloc::Global;
+use std::sync::Wait;
+use std::thread::Parker;
+use std::time::Duration;
+use tj_base::{CellId, Oom};
+use tj_body::Body;
+use tj_words::{Laid, Phase, WSeat, Walk};
+
+/// What a look came to, and how an observer leaves.
+#[derive(Clone, Copy)]
+pub(crate) enum Sight {
+    /// The run goes on.
+    GoesOn,
+    /// The run is at its end.
+    Ended,
+    /// The listener stops it.
+    Stops,
+    /// Memory is lacking.
+    Wants,
+}
+
+/// Looks until the run is at its end. Where the listener stops it, or memory is lacking, it stores 2 in
+/// STOP. Between two looks it sleeps for so many milliseconds.
+pub(crate) fn observe<B: Body, T: Listener, R: Wait>(
+    rt: &R,
+    alloc: Global,
+    laid: &Laid<B>,
+    seat: WSeat<B>,
+    every: u32,
+    telling: Telling<T>,
+) -> (WSeat<B>, Telling<T>, Sight)
+    requires seat { Observes laid.now seat }
+    ensures seat { Observes laid.now result.0 }
+    ensures lot { result.0.me.0.lot ≡ seat.me.0.lot }
+    ensures seen { AreSeen seat.log seat.me.0.seen telling.cycles
+        → AreSeen result.0.log result.0.me.0.seen result.1.cycles }
+    ensures goes { (s : T) → Hears T.tells telling.cycles s telling.listener
+        → result.2 ≢ Sight.Stops → Hears T.tells result.1.cycles s result.1.listener }
+    ensures stops { (s : T) → Hears T.tells telling.cycles s telling.listener
+        → result.2 ≡ Sight.Stops → IsStoppedBy T.tells result.1.cycles s result.1.listener }
+{
+    let mut seat = seat;
+    let mut telling = telling;
+    for _i in rt.forever() {
+        let sight = look(alloc, laid, &mut seat, &mut telling);
+        match sight {
+            Sight::GoesOn => Parker::new().park_timeout(
+                rt,
+                Duration::from_millis(u64::from(every)),
+            ),
+            Sight::Ended => return (seat, telling, sight),
+            Sight::Stops | Sight::Wants => {
+                laid.stop(&mut seat, 2);
+                return (seat, telling, sight);
+            }
+        }
+    }
+    unreachable!()
+}
+
+/// One look: it ends where STOP is loaded as other than 0, or LIVE as 0.
+fn look<B: Body, T: Listener>(
+    alloc: Global,
+    laid: &Laid<B>,
+    seat: &mut WSeat<B>,
+    telling: &mut Telling<T>,
+) -> Sight
+    requires seat { Observes laid.now seat.old }
+    ensures seat { LooksOn seat.old seat.new }
+    ensures seen { AreSeen seat.old.log seat.old.me.0.seen telling.old.cycles
+        → AreSeen seat.new.log seat.new.me.0.seen telling.new.cycles }
+    ensures goes { (s : T) → Hears T.tells telling.old.cycles s telling.old.listener
+        → result ≢ Sight.Stops → Hears T.tells telling.new.cycles s telling.new.listener }
+    ensures stops { (s : T) → Hears T.tells telling.old.cycles s telling.old.listener
+        → result ≡ Sight.Stops → IsStoppedBy T.tells telling.new.cycles s telling.new.listener }
+{
+    if laid.stopped(seat) != 0 {
+        return Sight::Ended;
+    }
+    if laid.live(seat) == 0 {
+        return Sight::Ended;
+    }
+    let drawn = laid.count(seat, None);
+    for c in 0..drawn {
+        match look_at(alloc, laid, seat, CellId(c), telling) {
+            Ok(Goes::On) => {}
+            Ok(Goes::Stop) => return Sight::Stops,
+            Err(Oom) => return Sight::Wants,
+        }
+    }
+    Sight::GoesOn
+}
+
+/// A look at one cell: where it is a task that has alarmed, its cycle is told, if it wasn't told yet.
+fn look_at<B: Body, T: Listener>(
+    alloc: Global,
+    laid: &Laid<B>,
+    seat: &mut WSeat<B>,
+    t: CellId,
+    telling: &mut Telling<T>,
+) -> Result<Goes, Oom>
+    requires seat { Observes laid.now seat.old }
+    requires cell { IsCellOf laid.now t.0 }
+    ensures seat { LooksOn seat.old seat.new }
+    ensures seen { AreSeen seat.old.log seat.old.me.0.seen telling.old.cycles
+        → AreSeen seat.new.log seat.new.me.0.seen telling.new.cycles }
+    ensures goes { (s : T) → Hears T.tells telling.old.cycles s telling.old.listener
+        → result ≢ Ok Goes.Stop → Hears T.tells telling.new.cycles s telling.new.listener }
+    ensures stops { (s : T) → Hears T.tells telling.old.cycles s telling.old.listener
+        → result ≡ Ok Goes.Stop → IsStoppedBy T.tells telling.new.cycles s telling.new.listener }
+{
+    if telling.has_met(t) {
+        return Ok(Goes::On);
+    }
+    let phase = laid.see_phase(seat, t, None);
+    if !has_alarmed(phase) {
+        return Ok(Goes::On);
+    }
+    telling.meet(t)?;
+    match cycle_of(alloc, laid, seat, t)? {
+        Some(links) => telling.tell_new(alloc, &links),
+        None => Ok(Goes::On),
+    }
+}
+
+/// Whether the phase is that of a task that has alarmed.
+fn has_alarmed(phase: Phase) -> bool
+    ensures { result ≡ true → (c : CellId) × (way : Way)
+        × (phase ≡ phase_of.Waiting c way walk.Alarmed) }
+{
+    matches!(phase, Phase::Waiting(_, _, Walk::Alarmed))
+}

@@ -1,0 +1,304 @@
+//! A run whose deadlocks are told as they happen.
+ghost use Rattle.std.specs.Prelude.{◌≡◌, ◌≢◌, ◌<◌, ◌≤◌, ◌*◌, ◌++◌, ◌∷◌, List, [], All, IfErr, IfOk, Err, length};
+ghost use Rattle.std.specs.Thread.{IsSync};
+ghost use denote.Param.Send.{IsSend};
+ghost use Rattle.tj_base.specs.declared.cell.TheConstants.{MAX_CELLS};
+ghost use Rattle.tj_body.specs.Asks.{IsFresh};
+ghost use Rattle.tj_body.specs.Programs.{program_of};
+ghost use Rattle.tj_body.specs.Rounds.{IsFull, meaning};
+ghost use Rattle.tj_embed.specs.Limits.{AreLimits};
+ghost use Rattle.tj_mean.specs.Outcomes.{IsOutcome};
+ghost use Rattle.tj_body.specs.Points.{IsIn};
+ghost use Rattle.tj_mean.specs.declared.outcome.Link.{Link};
+ghost use Rattle.tj_mean.specs.declared.outcome.Outcome.{Outcome};
+ghost use Rattle.tj_run.specs.Leaving.{Leaves};
+ghost use Rattle.tj_run.specs.Runs.{HasLots, RestsAt};
+ghost use Rattle.tj_run.specs.Workers.{IsFree, table_program};
+ghost use Rattle.tj_told.specs.Hearing.{Hears, IsStoppedBy};
+ghost use Rattle.tj_told.specs.Observers.{Observes};
+ghost use Rattle.tj_told.specs.ToldCycles.{AreTold};
+ghost use Rattle.tj_told.specs.ToldLinks.{AreSeen, AreSeenBy};
+ghost use Rattle.std.specs.Prelude.{Option};
+ghost use Rattle.tj_log.specs.Shown.{SeatShown};
+ghost use Rattle.tj_words.specs.declared.record.Rec.{Rec};
+ghost use Rattle.tj_words.specs.declared.view.View.{View};
+ghost use Rattle.tj_words.specs.AtRest.EndedRuns.{EndsRun};
+ghost use Rattle.tj_words.specs.Law.{IsRooted};
+ghost use Rattle.tj_words.specs.LawParts.FirstState.{first_view};
+ghost use Rattle.tj_words.specs.LawParts.Lots.{least_lot};
+ghost use Rattle.tj_words.specs.LawParts.TreeWords.{IsCell};
+ghost use Rattle.tj_words.specs.AtRest.RestMeaning.{HaveMeaning};
+ghost use Rattle.tj_body.specs.History.{to_task};
+ghost use Rattle.tj_words.specs.SeatViews.SeatSteps.{IsSeatOf};
+ghost use Rattle.tj_words.specs.SeatViews.Views.{IsIdle, both, left_half};
+
+use crate::fault::ToldFault;
+use crate::listener::Listener;
+use crate::observer::{Sight, observe};
+use crate::settling::tell_rest;
+use crate::telling::Telling;
+use std::alloc::Global;
+use std::sync::Wait;
+use std::thread::{Threads, join};
+use tj_base::{CellId, Oom};
+use tj_body::Body;
+use tj_embed::Options;
+use tj_laws::every_moment;
+use tj_mean::Outcome;
+use tj_ports::{Gate, OpenGate};
+use tj_ready::{NewestFirstPool, Pool};
+use tj_report::outcome_of;
+use tj_run::{Left, Why, work_all};
+use tj_words::{Laid, RestWords, WSeat};
+
+/// Runs a root and all that it forks, as `tj_embed::run_outcome` does, and tells the listener of each
+/// cycle of waits, as it happens: beside the workers an observer looks for tasks that have alarmed, and
+/// sleeps for so many milliseconds between two looks, so the call may return as much later. By 0 it
+/// looks without a pause. What it didn't see is told at rest. The listener comes back. That the call
+/// returns isn't proved.
+pub fn run_told<B: Body, T: Listener, R: Wait + Threads + Sync>(
+    rt: &R,
+    alloc: Global,
+    root: B,
+    options: Options,
+    every: u32,
+    listener: T,
+) -> (Result<Outcome, ToldFault>, T)
+    requires limits { AreLimits options }
+    requires root { IsFresh B.places B.awaits B.left 1 root }
+    // The outcome is that of the meaning of the root.
+    ensures outcome { let p = program_of B.places B.awaits B.left B.asks B.then options.strict root
+        in IfOk result.0 (IsOutcome (meaning p options.cells)) }
+    // With an outcome, the calls that the listener has heard were made with the outcome's cycles,
+    // all of them, each once, and it answered On to each. So what is told early is never taken back.
+    ensures told { IfOk result.0 (λ outcome. (cycles : List (List Link))
+        × Hears T.tells cycles listener result.1 × AreTold cycles outcome.cycles) }
+    // Stopped comes only where it answered Stop to the last call.
+    ensures stopped { result.0 ≡ Err ToldFault.Stopped → (cycles : List (List Link))
+        × IsStoppedBy T.tells cycles listener result.1 }
+    // Else it answered On to each call, and no cycle was told twice.
+    ensures heard { result.0 ≢ Err ToldFault.Stopped → (cycles : List (List Link))
+        × Hears T.tells cycles listener result.1 }
+    // Full comes only where the meaning is full.
+    ensures full { let p = program_of B.places B.awaits B.left B.asks B.then options.strict root
+        in result.0 ≡ Err ToldFault.Full → IsFull p options.cells }
+{
+    every_moment::<B>();
+    let telling = Telling::new(alloc, listener);
+    let (rest, telling) = run_beside::<B, NewestFirstPool, OpenGate, T, R>(
+        rt, alloc, root, options, &OpenGate, every, telling,
+    );
+    match rest {
+        Ok(rest) => at_rest(alloc, &rest, telling),
+        Err(why) => (Err(why), telling.listener),
+    }
+}
+
+/// The outcome, once each of its cycles is told.
+fn at_rest<B: Body, T: Listener>(
+    alloc: Global,
+    rest: &RestWords<B>,
+    telling: Telling<T>,
+) -> (Result<Outcome, ToldFault>, T)
+    requires meaning { HaveMeaning (program_of B.places B.awaits B.left B.asks B.then rest.now.strict
+        rest.now.root) rest.now.limit rest.now.cells rest.now.records }
+    requires among { (o : Outcome) → IsOutcome (meaning (program_of B.places B.awaits B.left B.asks
+        B.then rest.now.strict rest.now.root) rest.now.limit) o → (c : List Link)
+        → IsIn c telling.cycles → IsIn c o.cycles }
+    ensures outcome { let p = program_of B.places B.awaits B.left B.asks B.then rest.now.strict
+        rest.now.root in IfOk result.0 (IsOutcome (meaning p rest.now.limit)) }
+    ensures told { (s : T) → Hears T.tells telling.cycles s telling.listener
+        → IfOk result.0 (λ outcome. (cycles : List (List Link)) × Hears T.tells cycles s result.1
+        × AreTold cycles outcome.cycles) }
+    ensures stopped { (s : T) → Hears T.tells telling.cycles s telling.listener
+        → result.0 ≡ Err ToldFault.Stopped → (cycles : List (List Link))
+        × IsStoppedBy T.tells cycles s result.1 }
+    ensures heard { (s : T) → Hears T.tells telling.cycles s telling.listener
+        → result.0 ≢ Err ToldFault.Stopped → (cycles : List (List Link))
+        × Hears T.tells cycles s result.1 }
+    ensures full { result.0 ≢ Err ToldFault.Full }
+{
+    let mut telling = telling;
+    match outcome_of(alloc, rest) {
+        Ok(outcome) => match tell_rest(alloc, &outcome.cycles, &mut telling) {
+            Ok(()) => (Ok(outcome), telling.listener),
+            Err(fault) => (Err(fault), telling.listener),
+        },
+        Err(Oom) => (Err(ToldFault::Oom), telling.listener),
+    }
+}
+
+// The workers, and an observer beside them.
+fn run_beside<B: Body, P: Pool, G: Gate, T: Listener, R: Wait + Threads + Sync>(
+    rt: &R,
+    alloc: Global,
+    root: B,
+    options: Options,
+    gate: &G,
+    every: u32,
+    telling: Telling<T>,
+) -> (Result<RestWords<B>, ToldFault>, Telling<T>)
+    requires limits { AreLimits options }
+    requires root { IsFresh B.places B.awaits B.left 1 root }
+    ensures rest { IfOk result.0 (RestsAt
+        (program_of B.places B.awaits B.left B.asks B.then) root options.cells options.strict) }
+    ensures seen { telling.cycles ≡ [] → IfOk result.0 (λ rest.
+        (seat : SeatShown (Option (Rec B)) (View B)) × EndsRun (program_of B.places B.awaits B.left
+        B.asks B.then) options.cells options.strict root seat rest.cells rest.records
+        × AreSeenBy seat.took seat.me.0.seen result.1.cycles) }
+    ensures goes { (s : T) → Hears T.tells telling.cycles s telling.listener
+        → result.0 ≢ Err ToldFault.Stopped → Hears T.tells result.1.cycles s result.1.listener }
+    ensures stops { (s : T) → Hears T.tells telling.cycles s telling.listener
+        → result.0 ≡ Err ToldFault.Stopped → IsStoppedBy T.tells result.1.cycles s result.1.listener }
+    ensures full { result.0 ≡ Err ToldFault.Full → IsFull
+        (program_of B.places B.awaits B.left B.asks B.then options.strict root) options.cells }
+{
+    let (laid, seat, ends) = match make_ready::<B, P, R>(rt, alloc, root, options) {
+        Ok(made) => made,
+        Err(Oom) => return (Err(ToldFault::Oom), telling),
+    };
+    let (seat, left, telling, sight) = work_told::<B, P, G, T, R>(
+        rt, alloc, &laid, seat, ends, gate, every, telling,
+    );
+    (ended(laid, seat, left, sight), telling)
+}
+
+// The table with its first seat, and the ends of the pool; the root is in the first one.
+fn make_ready<B: Body, P: Pool, R: Wait>(
+    rt: &R,
+    alloc: Global,
+    root: B,
+    options: Options,
+) -> Result<(Laid<B>, WSeat<B>, Vec<P>), Oom>
+    requires limits { AreLimits options }
+    requires root { IsFresh B.places B.awaits B.left 1 root }
+    ensures cells { IfOk result (λ made. made.0.cells ≡ options.cells) }
+    ensures strict { IfOk result (λ made. made.0.strict ≡ options.strict) }
+    ensures root { IfOk result (λ made. made.0.root.value ≡ root) }
+    ensures table { IfOk result (λ made. IsSeatOf made.0 made.1) }
+    ensures view { IfOk result (λ made. made.1.me ≡ (
+      first_view
+          options.cells root options.strict,
+      [],
+    )) }
+    ensures workers { IfOk result (λ made. length made.2.items ≡ options.workers) }
+    ensures pools { IfOk result (λ made. All (λ end. P.limit end ≡ options.cells) made.2.items) }
+{
+    let mut ends = P::make(rt, alloc, options.workers, options.cells)?;
+    let (laid, seat) = Laid::new(alloc, options.cells, root, options.strict)?;
+    if let Some(first) = ends.as_mut_slice().first_mut() {
+        first.put(rt, alloc, CellId(0))?;
+    }
+    Ok((laid, seat, ends))
+}
+
+// What a run came to whose workers left like this, and whose observer left like that.
+fn ended<B: Body>(
+    laid: Laid<B>,
+    seat: WSeat<B>,
+    left: Left,
+    sight: Sight,
+) -> Result<RestWords<B>, ToldFault>
+    requires table { IsSeatOf laid seat }
+    requires left { Leaves (program_of B.places B.awaits B.left B.asks B.then) left
+        (first_view laid.cells laid.root.value laid.strict) seat.me }
+    ensures rest { IfOk result (RestsAt (program_of B.places B.awaits B.left B.asks B.then)
+        laid.root.value laid.cells laid.strict) }
+    ensures ends { IfOk result (λ rest. EndsRun (program_of B.places B.awaits B.left B.asks B.then)
+        laid.cells laid.strict laid.root.value seat rest.cells rest.records) }
+    ensures rested { IfOk result (λ rest. left ≡ Left.Rested) }
+    ensures stopped { result ≡ Err ToldFault.Stopped → sight ≡ Sight.Stops }
+    ensures other { result ≢ Err ToldFault.Stopped → sight ≢ Sight.Stops }
+    ensures full { result ≡ Err ToldFault.Full → left ≡ Left.Stopped Why.Full }
+{
+    match (left, sight) {
+        (_, Sight::Stops) => Err(ToldFault::Stopped),
+        (_, Sight::Wants) => Err(ToldFault::Oom),
+        (Left::Rested, _) => Ok(laid.rest(seat)),
+        (Left::Stopped(Why::Full), _) => Err(ToldFault::Full),
+        (Left::Stopped(Why::Memory), _) => Err(ToldFault::Oom),
+    }
+}
+
+// The workers, and beside them the observer, whose seat is taken in again. Where no thread can be made
+// for the observer, it comes after the workers.
+fn work_told<B: Body, P: Pool, G: Gate, T: Listener, R: Wait + Threads + Sync>(
+    rt: &R,
+    alloc: Global,
+    laid: &Laid<B>,
+    seat: WSeat<B>,
+    ends: Vec<P>,
+    gate: &G,
+    every: u32,
+    telling: Telling<T>,
+) -> (WSeat<B>, Left, Telling<T>, Sight)
+    requires table { IsSeatOf laid.now seat }
+    requires free { IsFree laid.now seat.me }
+    requires rooted { IsRooted (table_program (program_of B.places B.awaits B.left B.asks B.then)
+        laid.now) }
+    requires crosses { IsSync R.row × IsSync G.row × IsSend B.row × IsSend P.row × IsSend T.row }
+    requires pools { All (λ end. P.limit end ≡ laid.now.cells) ends.items }
+    requires lots { HasLots (length ends.items) (left_half seat.me.0) }
+    requires room { 2 * least_lot ≤ seat.me.0.lot }
+    requires root { IsCell seat.me.0.born 0 (to_task []) }
+    ensures table { result.0.table_id ≡ seat.table_id }
+    ensures left { Leaves (program_of B.places B.awaits B.left B.asks B.then) result.1 seat.me.0
+        result.0.me }
+    ensures seen { telling.cycles ≡ [] → result.1 ≡ Left.Rested
+        → AreSeenBy result.0.took result.0.me.0.seen result.2.cycles }
+    ensures goes { (s : T) → Hears T.tells telling.cycles s telling.listener
+        → result.3 ≢ Sight.Stops → Hears T.tells result.2.cycles s result.2.listener }
+    ensures stops { (s : T) → Hears T.tells telling.cycles s telling.listener
+        → result.3 ≡ Sight.Stops → IsStoppedBy T.tells result.2.cycles s result.2.listener }
+{
+    let (mine, theirs) = laid.split(seat);
+    let watching = move || -> (WSeat<B>, Telling<T>, Sight)
+        requires { Observes laid.now theirs }
+        ensures { (result.0.table_id ≡ theirs.table_id) × IsIdle result.0.me.0
+            × (result.0.me.1 ≡ []) × (result.0.me.0.lot ≡ theirs.me.0.lot)
+            × (telling.cycles ≡ [] → AreSeen result.0.log result.0.me.0.seen result.1.cycles)
+            × ((s : T) → Hears T.tells telling.cycles s telling.listener
+            → result.2 ≢ Sight.Stops → Hears T.tells result.1.cycles s result.1.listener)
+            × ((s : T) → Hears T.tells telling.cycles s telling.listener
+            → result.2 ≡ Sight.Stops → IsStoppedBy T.tells result.1.cycles s result.1.listener) }
+    { observe(rt, alloc, laid, theirs, every, telling) };
+    let working = move || -> (WSeat<B>, Left)
+        requires { IsSync R.row × IsSync G.row × IsSend B.row × IsSend P.row
+            × IsSeatOf laid.now mine × IsFree laid.now mine.me
+            × IsRooted (table_program (program_of B.places B.awaits B.left B.asks B.then) laid.now)
+            × All (λ end. P.limit end ≡ laid.now.cells) ends.items
+            × HasLots (length ends.items) mine.me.0 }
+        ensures { (result.0.table_id ≡ mine.table_id) × Leaves
+            (program_of B.places B.awaits B.left B.asks B.then) result.1 mine.me.0 result.0.me }
+    { work_all::<B, P, G, R>(rt, alloc, laid, mine, ends, gate) };
+    let (watched, worked) = join(rt, watching, working);
+    let (theirs, telling, sight) = watched;
+    let (seat, left) = take_in(laid, worked.0, worked.1, theirs);
+    (seat, left, telling, sight)
+}
+
+// The seat of workers at rest takes in that of the observer.
+fn take_in<B: Body>(
+    laid: &Laid<B>,
+    worked: WSeat<B>,
+    left: Left,
+    watched: WSeat<B>,
+) -> (WSeat<B>, Left)
+    requires table { IsSeatOf laid.now worked }
+    requires other_table { IsSeatOf laid.now watched }
+    requires rested { left ≡ Left.Rested → IsIdle worked.me.0 × (worked.me.1 ≡ []) }
+    requires idle { IsIdle watched.me.0 }
+    requires slots { watched.me.1 ≡ [] }
+    ensures table { result.0.table_id ≡ laid.now.table.shared.table_id }
+    ensures rested { result.1 ≡ Left.Rested → (left ≡ Left.Rested)
+        × (result.0.me ≡ (both worked.me.0 watched.me.0, [])) × IsIdle result.0.me.0 }
+    ensures took { result.1 ≡ Left.Rested
+        → result.0.took ≡ worked.took ++ watched.log ∷ watched.took }
+    ensures stopped { (why : Why) → result.1 ≡ Left.Stopped why
+        → (result.0 ≡ worked) × (left ≡ Left.Stopped why) }
+{
+    match left {
+        Left::Stopped(why) => (worked, Left::Stopped(why)),
+        Left::Rested => (laid.merge(worked, watched), Left::Rested),
+    }
+}

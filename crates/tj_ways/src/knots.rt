@@ -1,0 +1,55 @@
+//! A deadlock that is told while another task goes on.
+use std::alloc::Global;
+use std::sync::Wait;
+use std::thread::Threads;
+use tj_base::Oom;
+use tj_embed::Options;
+use tj_examples::Knot;
+use tj_mean::LinkList;
+use tj_task::{Replay, TaskBody};
+use tj_told::{Goes, Listener, run_told};
+
+/// Writes down each cycle that it is told, and stops the run where memory is lacking.
+#[derive(Drop)]
+struct Writes {
+    alloc: Global,
+    text: Vec<u8>,
+}
+
+impl Writes {
+    fn add(&mut self, links: &LinkList) -> Result<(), Oom> {
+        self.text.extend_from_slice(b"told")?;
+        for link in links.items() {
+            self.text.extend_from_slice(b" ")?;
+            link.task.text_into(self.alloc, &mut self.text)?;
+            self.text.extend_from_slice(b" waits for ")?;
+            link.cell.text_into(self.alloc, &mut self.text)?;
+        }
+        self.text.extend_from_slice(b"\n")?;
+        Ok(())
+    }
+}
+
+impl Listener for Writes {
+    fn cycle(&mut self, links: &LinkList) -> Goes {
+        match self.add(links) {
+            Ok(()) => Goes::On,
+            Err(Oom) => Goes::Stop,
+        }
+    }
+}
+
+/// What is told of two tasks that wait for each other, by looks every two milliseconds.
+pub(crate) fn told_knot<R: Wait + Threads + Sync + AllocGlobal>(rt: &R) -> Option<Vec<u8>> {
+    let alloc = rt.alloc();
+    let root = TaskBody::new(Replay::of(alloc, Knot::Root), 100);
+    let writes = Writes {
+        alloc,
+        text: Vec::new(alloc),
+    };
+    let (outcome, writes) = run_told(rt, alloc, root, Options::usual(), 2, writes);
+    match outcome {
+        Ok(_outcome) => Some(writes.text),
+        Err(_fault) => None,
+    }
+}
