@@ -5,7 +5,6 @@ pub mod Doings
 pub mod WalkReads
 pub mod WalkLoops
 pub mod WalkBlocks
-pub mod Skips
 pub mod NeededWalks
 pub mod Prelude
 pub mod Climbs

@@ -3,8 +3,8 @@ use Rattle.tj_detect.proofs.Prelude.{Alarm, Blocks, EndsWith, MayBlock, Skipped,
 use Rattle.tj_detect.proofs.Prelude.{does_after, held_in, now_does, refl, subst, sym, tokens_given, ℕ, ◌∙◌, ◌≡◌, ◌≢◌}
 use Rattle.std.specs.Prelude.{length}
 use Rattle.tj_events.specs.Events.{EndsWalk, MaySettle}
-use Rattle.tj_words.specs.CallLaws.Verdicts.{HasEndedWalk}
-use Rattle.tj_words.proofs.Calls.Verdicts.{ended_walks_off_cycles}
+use Rattle.tj_runs.specs.Verdicts.{HasEndedWalk}
+use Rattle.tj_runs.proofs.Verdicts.{ended_walks_off_cycles}
 use Rattle.tj_detect.specs.VerdictRuns.{VerdictsAreOffCycles}
 use Rattle.tj_detect.proofs.Doings.{doing_held}
 use Rattle.tj_words.specs.declared.view.Does.TheVariants as does

@@ -8,7 +8,7 @@ use Rattle.tj_words.specs.declared.table.Key.{Key}
 use Rattle.tj_words.specs.declared.view.View.{View}
 use Rattle.tj_words.specs.CallLaws.CallRuns.{AreAskedMoments}
 use Rattle.tj_words.specs.CallLaws.RestedRuns.{Ruled, last_moment}
-use Rattle.tj_words.specs.CallLaws.Verdicts.{IsOnCycleAt, PublishesAt}
+use Rattle.tj_runs.specs.Verdicts.{IsOnCycleAt, PublishesAt}
 use Rattle.tj_detect.specs.Blocks.{Blocks, MayBlock}
 use Rattle.tj_detect.specs.declared.blocking.Verdict.{Verdict}
 use Rattle.tj_detect.specs.declared.blocking.Verdict.TheVariants.{Alarm}

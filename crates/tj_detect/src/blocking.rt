@@ -17,7 +17,6 @@ ghost use Rattle.tj_words.specs.Calls.WalkViews.{IsWalking, MayLoadWait};
 ghost use Rattle.tj_detect.specs.BlockLogs.{LogsBlock, MakesLoads, MakesWalk};
 ghost use Rattle.tj_detect.specs.Blocks.{Blocks, HasReadNoOthers, InEachTable, MayBlock};
 ghost use Rattle.tj_detect.specs.Blocks.{OthersWatch, StandsOnCycle};
-ghost use Rattle.tj_detect.specs.Skips.{LoadsOthers};
 ghost use Rattle.tj_detect.specs.Inner.WalkHops.{Comes, Hops, IsAtCount, Passes, WalksWith};
 
 use std::sync::ledger::Ledger;
@@ -71,11 +70,6 @@ pub fn block<B: Body, L: Ledger>(
     ensures view { Blocks result t.0 q.0 way steps.old steps.new seat.old.me.0 seat.new.me.0 }
     // Skipped comes exactly where the way is along and this call loaded OTHERS as 0.
     ensures skipped { result ≡ Verdict.Skipped ↔ HasReadNoOthers t.0 q.0 seat.new.me.0 }
-    // Where the way is along, OTHERS was loaded once the wait was published: in some table under
-    // the law a seat has the view after the publish while OTHERS is the number loaded; the walk is
-    // skipped exactly where that is 0.
-    ensures others { way ≡ Way.Along → LoadsOthers
-        (program_of B.places B.awaits B.left B.asks B.then) result t.0 q.0 seat.old.me.0 }
     // Alarm comes only with t on a standing cycle.
     ensures alarm { result ≡ Verdict.Alarm
         → InEachTable (program_of B.places B.awaits B.left B.asks B.then) seat.new.me.0
@@ -127,8 +121,6 @@ impl<B: Body> Waiter<'_, B> {
         ensures seat { IsSameSeat seat.old seat.new }
         ensures view { Blocks result self.now.t.0 self.now.q.0 self.now.way steps.old steps.new
             seat.old.me.0 seat.new.me.0 }
-        ensures others { LoadsOthers (program_of B.places B.awaits B.left B.asks B.then) result
-            self.now.t.0 self.now.q.0 seat.old.me.0 }
         ensures log { LogsBlock self.now.laid.now.cells self.now.t.0 self.now.q self.now.way result
             seat.old seat.new }
     {

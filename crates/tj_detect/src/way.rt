@@ -3,6 +3,7 @@ ghost use Rattle.std.specs.Prelude.{◌≡◌, ◌+◌, ◌*◌};
 ghost use Rattle.tj_words.specs.SeatViews.SeatSteps.{IsSeatOf, IsCellOf, IsSameSeat};
 ghost use Rattle.tj_words.specs.Steps.WalkSteps.{way_by};
 ghost use Rattle.tj_words.specs.SeatViews.TreeReads.{KnowsTask, HasReadTree};
+ghost use Rattle.tj_detect.specs.ClimbLogs.{LogsClimb};
 ghost use Rattle.tj_detect.specs.TreeReads.{IsWithinCost};
 
 use crate::tree_walk::Climber;
@@ -38,6 +39,8 @@ pub fn way_of<B: Body, L: Ledger>(
     // With b binary digits of the greater depth of the two tasks, plus one, it makes at most 16b +
     // 16 steps. A task's depth is the length of its name.
     ensures cost { IsWithinCost seat.new.me.0.born t.0 u.0 steps.old steps.new }
+    // These loads are its only steps.
+    ensures log { LogsClimb steps.old steps.new seat.old seat.new }
 {
     order_is_that_of_names();
     let mut climber = Climber { seat, steps };

@@ -8,7 +8,9 @@ ghost use Rattle.tj_syntax.specs.ScriptTexts.{IsSomeScript};
 ghost use Rattle.tj_mean.specs.declared.outcome.Outcome.{Outcome};
 ghost use Rattle.tj_mean.specs.Outcomes.{is_marked};
 ghost use Rattle.tj_syntax.specs.View as shown;
+ghost use Rattle.tj_report.specs.ClosedOutcomes.{AreCyclesOfOutcomeAlarmed};
 ghost use Rattle.tj_words.specs.AtRest.ClosedCells.{AreAtRest, AreCyclesAlarmed, AreAlarmsOnCycles};
+ghost use Rattle.tj_words.specs.AtRest.RestMeaning.{HaveWords};
 
 use crate::options::Options;
 use std::alloc::Global;
@@ -121,6 +123,13 @@ impl<'s> ScriptRun<'s> {
         ensures rest { AreAtRest result }
         ensures cycles { AreCyclesAlarmed result }
         ensures alarms { AreAlarmsOnCycles result }
+        // They are the words of the meaning of what the run began with, which isn't full: its
+        // cells, each once, what has become of each, and where each task's history stops.
+        ensures meaning { HaveWords (script_program self.entry.strict self.entry.root)
+            self.entry.limit result }
+        // And each cycle of the run's outcome has a member that has alarmed.
+        ensures alarmed { (outcome : Outcome) → IsOutcomeOfRun self.entry outcome
+            → AreCyclesOfOutcomeAlarmed result outcome }
     {
         self.rest.into_closed()
     }

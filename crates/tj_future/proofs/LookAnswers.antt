@@ -19,17 +19,17 @@ use Rattle.tj_words.specs.declared.record.Rec.{Rec}
 use Rattle.tj_words.specs.declared.table.Key.{Key}
 use Rattle.tj_words.specs.declared.view.View.{View}
 use Rattle.tj_words.specs.AtRest.RestingSeats.{MayRest}
-use Rattle.tj_words.specs.CallLaws.AlikeSeats.{IsTheTables, ResultSays}
+use Rattle.tj_runs.specs.AlikeSeats.{IsTheTables, ResultSays}
 use Rattle.tj_words.specs.CallLaws.CallRuns.{AreAskedMoments}
 use Rattle.tj_words.specs.CallLaws.RestedRuns.{Ruled, last_moment, tag_at}
 use Rattle.tj_words.specs.LawParts.Contents.{Contents, bits_in, contents_of, home_of, tag_in}
 use Rattle.tj_words.specs.LawParts.Telling.{BitsSay, tag_of}
 use Rattle.tj_words.specs.LawParts.TreeWords.{IsCell}
 use Rattle.tj_words.specs.Words.Values.{fill_in, tag_word}
-use Rattle.tj_words.proofs.Calls.AlikeSeats.{plain_moments, seats_know_for_good}
-use Rattle.tj_words.proofs.Calls.RestedRuns.{no_value_comes}
+use Rattle.tj_runs.proofs.AlikeSeats.{plain_moments, seats_know_for_good}
+use Rattle.tj_runs.proofs.RestedRuns.{no_value_comes}
 use Rattle.tj_words.proofs.Cells.CellNames.{AreApartByName, born_apart}
-use Rattle.tj_words.proofs.Meaning.EndedRecords.{records_say_results}
+use Rattle.tj_runs.proofs.EndedRecords.{records_say_results}
 use Rattle.tj_run.specs.declared.why.Why.{Why}
 use Rattle.tj_future.specs.declared.watched.Watched.{Watched}
 use Rattle.tj_future.specs.declared.watched.Watched.TheVariants as watched

@@ -1,20 +1,18 @@
 -- What a seat knew it knows after a look, and what the last of some looks was answered is what all of them came to.
 use Rattle.std.proofs.Common.{◌≡◌, ◌≢◌, ℕ, [], ◌∷◌, Bool, true, refl, sym, ap, ◌∙◌, subst, inr, arith}
 use Rattle.tj_body.specs.Programs.{Program}
-use Rattle.tj_body.proofs.Lists.{begins_self}
+use Rattle.tj_body.proofs.Lists.{in_right}
 use Rattle.tj_cells.specs.declared.seen.Seen.{Seen}
 use Rattle.tj_cells.specs.declared.seen.Seen.TheVariants as seen
-use Rattle.tj_cells.specs.SeenValues.{SeesValue}
+use Rattle.tj_cells.specs.SeenValues.{SeesValue, cells_seen, saw_value}
 use Rattle.tj_words.specs.declared.view.Noted.TheVariants as note
 use Rattle.tj_words.specs.declared.view.View.{View}
 use Rattle.tj_words.specs.SeatViews.KnowsMore.{KnowsMore}
-use Rattle.tj_words.specs.SeatViews.Moments.{WasSo}
-use Rattle.tj_words.specs.Words.Offsets.{live_at, stop_at}
 use Rattle.tj_words.specs.CallLaws.RestedRuns.{NoValueComes}
 use Rattle.tj_words.specs.SeatViews.FullMeaning.{NamesFull}
 use Rattle.tj_words.specs.SeatViews.SeenWords.{FindsNothing}
 use Rattle.tj_words.specs.SeatViews.Views.{IsIdle, loaded_once, note_of, saw_live, saw_rest, saw_stop}
-use Rattle.tj_words.proofs.SeatLoads.KnowsMoreOn.{more_itself, more_on}
+use Rattle.tj_words.proofs.SeatLoads.KnowsMoreOn.{keeps_load, keeps_noted, more_itself, more_on}
 use Rattle.tj_run.specs.declared.why.Why.{Why}
 use Rattle.tj_run.specs.declared.why.Why.TheVariants as why
 use Rattle.tj_run.specs.Leaving.{IsTold, stop_word}
@@ -24,59 +22,39 @@ use Rattle.tj_future.specs.Looks.{Answers, ComesToRest, GoesOn, IsNeverFilled, I
 use Rattle.tj_future.specs.Looks.{told_as}
 
 module _ {B : Type 0} where
+  -- a load of TAG that found 0, and then one of STOP that did
+  abbrev noted_stop : View B → View B
+  noted_stop v = saw_stop 0 (loaded_once v)
+
   -- a look that found nothing left what the seat knew
   pub knows_still : {program : Bool → B → Program B} (p : ℕ) (v w : View B) → GoesOn program p v w → KnowsMore v w
-  knows_still p v w h =
-      let s = h.not_stopped in
-      subst (KnowsMore v) (sym h.view)
-      (subst (λ u. KnowsMore v (saw_live h.live u)) (sym s.view)
-      (subst (λ u. KnowsMore v (saw_live h.live (saw_stop 0 u))) (sym s.nothing.view) (record {
-        about = refl;
-        lot = refl;
-        born = begins_self v.born;
-        known = λ x i. i;
-        wrote = λ x i. i;
-        filled = λ x i. i;
-        seen = λ x i. i;
-        closed = λ x i. i;
-        rested = λ e. e;
-        notes = (
-          note_of note.Live h.live (saw_stop 0 (loaded_once v)) ∷ note_of note.Stop 0 (loaded_once v) ∷ [],
-          refl,
-        );
-      })))
+  knows_still p v w h = let s = h.not_stopped in
+      subst (KnowsMore v) (sym (h.view ∙ ap (saw_live h.live) (s.view ∙ ap (saw_stop 0) s.nothing.view)))
+      (keeps_noted v (saw_live h.live (noted_stop v)) (λ e. e) (λ e. e) (
+        note_of note.Live h.live (noted_stop v) ∷ note_of note.Stop 0 (loaded_once v) ∷ [],
+        refl,
+      )).more
 
   -- a look found STOP to be 0
   not_stopped : (program : Bool → B → Program B) (p stop : ℕ) (v u s : View B) → FindsNothing p v u
-      → WasSo program stop_at stop u → s ≡ saw_stop stop u → stop ≡ 0 → LoadsStop program p 0 v s
-  not_stopped program p stop v u s f was e z = record {
-    looked = u;
-    nothing = f;
-    stop = subst (λ n. WasSo program stop_at n u) z was;
-    view = e ∙ ap (λ n. saw_stop n u) z;
-  }
+      → s ≡ saw_stop stop u → stop ≡ 0 → LoadsStop program p 0 v s
+  not_stopped program p stop v u s f e z =
+      record { looked = u; nothing = f; view = e ∙ ap (λ n. saw_stop n u) z }
 
   -- a look that found STOP and LIVE to be 0 has come to rest
-  pub rests_at : (program : Bool → B → Program B) (p stop live : ℕ) (v u s w : View B) → FindsNothing p v u
-      → WasSo program stop_at stop u → s ≡ saw_stop stop u → stop ≡ 0
-      → WasSo program live_at live s → live ≡ 0 → w ≡ saw_rest s → ComesToRest program p v w
-  rests_at program p stop live v u s w f was e z lives y k = record {
-    open_still = s;
-    not_stopped = not_stopped program p stop v u s f was e z;
-    none_live = subst (λ n. WasSo program live_at n s) y lives;
-    view = k;
-  }
+  pub rests_at : (program : Bool → B → Program B) (p stop : ℕ) (v u s w : View B) → FindsNothing p v u
+      → s ≡ saw_stop stop u → stop ≡ 0 → w ≡ saw_rest s → ComesToRest program p v w
+  rests_at program p stop v u s w f e z k =
+      record { open_still = s; not_stopped = not_stopped program p stop v u s f e z; view = k }
 
   -- one that found LIVE above 0 goes on
   pub goes_on_at : (program : Bool → B → Program B) (p stop live : ℕ) (v u s w : View B) → FindsNothing p v u
-      → WasSo program stop_at stop u → s ≡ saw_stop stop u → stop ≡ 0
-      → WasSo program live_at live s → live ≢ 0 → w ≡ saw_live live s → GoesOn program p v w
-  goes_on_at program p stop live v u s w f was e z lives some k = record {
+      → s ≡ saw_stop stop u → stop ≡ 0 → live ≢ 0 → w ≡ saw_live live s → GoesOn program p v w
+  goes_on_at program p stop live v u s w f e z some k = record {
     open_still = s;
-    not_stopped = not_stopped program p stop v u s f was e z;
+    not_stopped = not_stopped program p stop v u s f e z;
     live = live;
     above = omega (arith, some);
-    some_live = lives;
     view = k;
   }
 
@@ -84,18 +62,11 @@ module _ {B : Type 0} where
   pub idle_at_rest : (program : Bool → B → Program B) (p : ℕ) (v w : View B) → IsIdle v → ComesToRest program p v w
       → IsIdle w
   idle_at_rest program p v w i h = let s = h.not_stopped in
-      subst IsIdle (sym (h.view ∙ ap (λ (u : View B). saw_rest u)
-      (s.view ∙ ap (λ (u : View B). saw_stop 0 u) s.nothing.view)))
-      (record {
-        tasks = i.tasks;
-        tokens = i.tokens;
-        hand = i.hand;
-        dues = i.dues;
-        cleared = i.cleared;
-        pushes = i.pushes;
-        shuts = i.shuts;
-        rest = i.rest;
-      })
+      subst IsIdle (sym (h.view ∙ ap (λ (u : View B). saw_rest u) (s.view ∙ ap (saw_stop 0) s.nothing.view)))
+      ((keeps_noted v (saw_rest (noted_stop v)) (λ e. refl) (λ e. e) (
+        note_of note.Live 0 (noted_stop v) ∷ note_of note.Stop 0 (loaded_once v) ∷ [],
+        refl,
+      )).idle i)
 
   -- a seat that has loaded LIVE as 0 shows that a cell whose TAG is 0 is never filled
   pub never_filled : NoValueComes B → (program : Bool → B → Program B) (p : ℕ) (v : View B) → v.rested ≡ true
@@ -118,18 +89,11 @@ module _ {B : Type 0} where
     watched_on a u v w k h = (h.0, more_on u v h.0 k h.1, h.2)
 
     -- what STOP said is told
-    pub tells_stopped : (cause : Why) (stop : ℕ) (v u w : View B) → FindsNothing p v u → WasSo program stop_at stop u
+    pub tells_stopped : (cause : Why) (stop : ℕ) (v u w : View B) → FindsNothing p v u
         → w ≡ saw_stop stop u → stop_word cause ≡ stop → (stop ≡ 1 → NamesFull program u)
         → Answers program cells p (watched.Stopped cause) v w
-    tells_stopped cause stop v u w f was e is full = (
-      record {
-        looked = u;
-        nothing = f;
-        stop = subst (λ n. WasSo program stop_at n u) (sym is) was;
-        view = e ∙ ap (λ n. saw_stop n u) (sym is);
-      },
-      by cause is,
-    )
+    tells_stopped cause stop v u w f e is full =
+        (record { looked = u; nothing = f; view = e ∙ ap (λ n. saw_stop n u) (sym is) }, by cause is)
       where
         by : (z : Why) → stop_word z ≡ stop → IsTold program z v
         by why.Full i = λ a q. full (sym i) a (ap (λ (z : View B). z.about) f.view ∙ q)
@@ -141,28 +105,12 @@ module _ {B : Type 0} where
     idle_seen s v w i none sees = by s refl
       where
         nothing : FindsNothing p v w → IsIdle w
-        nothing f = subst IsIdle (sym f.view) (record {
-          tasks = i.tasks;
-          tokens = i.tokens;
-          hand = i.hand;
-          dues = i.dues;
-          cleared = i.cleared;
-          pushes = i.pushes;
-          shuts = i.shuts;
-          rest = i.rest;
-        })
+        nothing f = subst IsIdle (sym f.view) ((keeps_noted v (loaded_once v) (λ e. e) (λ e. e) ([], refl)).idle i)
 
         value : SeesValue program cells p s v w → IsIdle w
-        value f = subst IsIdle (sym f.view) (record {
-          tasks = i.tasks;
-          tokens = i.tokens;
-          hand = i.hand;
-          dues = i.dues;
-          cleared = i.cleared;
-          pushes = i.pushes;
-          shuts = i.shuts;
-          rest = i.rest;
-        })
+        value f = subst IsIdle (sym f.view) ((keeps_load v (saw_value p f.entry (cells_seen s) f.born v) f.begins
+            (λ x k. in_right x (cells_seen s) v.known k) (λ x k. inr k) (λ x k. k) (λ e. e) (λ e. e) ([], refl)).idle
+            i)
 
         by : (z : Seen) → s ≡ z → IsIdle w
         by seen.NotYet e = nothing (none e)

@@ -10,8 +10,6 @@ use Rattle.tj_words.specs.declared.record.Fill.TheVariants as fill
 use Rattle.tj_words.specs.declared.table.Key.{Key}
 use Rattle.tj_words.specs.declared.view.View.{View}
 use Rattle.tj_words.specs.SeatViews.KnowsMore.{KnowsMore}
-use Rattle.tj_words.specs.SeatViews.Moments.{WasSo}
-use Rattle.tj_words.specs.Words.Offsets.{live_at, stop_at}
 use Rattle.tj_words.specs.CallLaws.RestedRuns.{AreMoments, Ruled, last_moment, tag_at}
 use Rattle.tj_words.specs.SeatViews.SeenWords.{FindsNothing}
 use Rattle.tj_words.specs.SeatViews.Views.{saw_live, saw_rest, saw_stop}
@@ -33,14 +31,12 @@ module _ {B : Type 0} (program : Bool → B → Program B) where
   pub record LoadsStop (p word : ℕ) (v w : View B) : Type 0 where
     pub looked : View B
     pub nothing : FindsNothing p v looked
-    pub stop : WasSo program stop_at word looked
     pub view : w ≡ saw_stop word looked
 
   -- TAG of the cell was loaded as 0, then STOP as 0, and then LIVE as 0
   pub record ComesToRest (p : ℕ) (v w : View B) : Type 0 where
     pub open_still : View B
     pub not_stopped : LoadsStop p 0 v open_still
-    pub none_live : WasSo program live_at 0 open_still
     pub view : w ≡ saw_rest open_still
 
   -- TAG of the cell was loaded as 0, then STOP as 0, and then LIVE above 0
@@ -49,7 +45,6 @@ module _ {B : Type 0} (program : Bool → B → Program B) where
     pub not_stopped : LoadsStop p 0 v open_still
     pub live : ℕ
     pub above : 0 < live
-    pub some_live : WasSo program live_at live open_still
     pub view : w ≡ saw_live live open_still
 
   -- where a table has a seat with this view, and TAG of the cell is 0, no step call fills the cell any more, nor does a

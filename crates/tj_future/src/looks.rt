@@ -14,7 +14,8 @@ use tj_base::CellId;
 use tj_body::Body;
 use tj_cells::{Seen, value};
 use tj_run::Why;
-use tj_words::{Fill, Laid, Stop, WSeat, rested_runs};
+use tj_runs::rested_runs;
+use tj_words::{Fill, Laid, Stop, WSeat};
 
 /// One look at cell `p`: it loads TAG, and where that is 0 then STOP, and where that is 0 then LIVE, and
 /// where that is 0 TAG again. It answers nothing where LIVE is above 0.
@@ -33,8 +34,7 @@ pub fn look_at<B: Body>(laid: &Laid<B>, seat: &mut WSeat<B>, p: CellId) -> Optio
     // It has the lot that it came with.
     ensures lot { seat.new.me.0.lot ≡ seat.old.me.0.lot }
     // Nothing is answered only where TAG of this cell was loaded as 0, then STOP as 0, and then
-    // LIVE above 0; STOP and LIVE were so in some table under the law in which a seat has the view
-    // at that load.
+    // LIVE above 0.
     ensures none { result ≡ None → GoesOn (program_of B.places B.awaits B.left B.asks B.then) p.0
         seat.old.me.0 seat.new.me.0 }
     // A value or Broken comes only where the words of this cell say so: what it says is what
@@ -43,8 +43,7 @@ pub fn look_at<B: Body>(laid: &Laid<B>, seat: &mut WSeat<B>, p: CellId) -> Optio
     // be 0, and a load of TAG of this cell that came later found 0; from that moment on no step
     // call, split or merge makes TAG other than 0, so the cell never gets a value. Where it is
     // Stopped, the word for why was found in STOP; and the meaning is full where that is the one
-    // for full. What was found in STOP and LIVE stood there in some table under the law in which a
-    // seat has the view at that load.
+    // for full.
     ensures some { IfSome result (λ watched. Answers (program_of B.places B.awaits B.left B.asks
         B.then) laid.now.cells p.0 watched seat.old.me.0 seat.new.me.0) }
     // The call is these loads, in this order, and no other step: TAG of this cell as 0, then STOP

@@ -39,8 +39,8 @@ use Rattle.tj_words.specs.Words.Owners.{owner_in}
 use Rattle.tj_words.specs.Words.Phases.{phase_in}
 use Rattle.tj_words.proofs.Prelude.{at_map, some-injective}
 use Rattle.tj_words.proofs.Lemmas.{each_set, hand_found}
-use Rattle.tj_words.proofs.Calls.CallChanges.{ShowsSame, head_same, live_same, once_same, push_same, put_same}
-use Rattle.tj_words.proofs.Calls.CallChanges.{owner_same, phase_same, shut_same}
+use Rattle.tj_runs.proofs.CallChanges.{ShowsSame, head_same, live_same, once_same, push_same, put_same}
+use Rattle.tj_runs.proofs.CallChanges.{owner_same, phase_same, shut_same}
 use Rattle.tj_words.proofs.Stores.SeatLists.{each_only, each_snoc, map_back}
 use Rattle.tj_laws.specs.Moments.{contents_at}
 use Rattle.tj_laws.specs.RestedTables.{NoneInHandAtRest}

@@ -2,10 +2,13 @@
 -- exchange for Running took what lay in the slot.
 use Rattle.std.proofs.Common.{◌≡◌, ℕ, suc, Bool, true, List, [], ◌∷◌, length, set, Option, Some, sym, ap, ◌∙◌}
 use Rattle.std.proofs.Common.{subst, inl, inr, ⊎_elim, arith, eqb-true}
+use lib.ListN.{get_elem?}
+use Rattle.atomic_table.proofs.Lists.{set_here}
 use Rattle.atomic_table.specs.Table.{Act, State, Step, carried_after, chain, gives, keeps, takes}
 use Rattle.tj_body.proofs.Lists.{in_left, in_right}
 use Rattle.tj_body.specs.Points.{IsIn}
 use Rattle.tj_body.specs.Programs.{Program}
+use Rattle.tj_log.proofs.Entries.{at_bound}
 use Rattle.tj_log.proofs.OwnSteps.{logs_of_runs}
 use Rattle.tj_log.proofs.PutSlots.{as_put}
 use Rattle.tj_log.specs.Laws.{IsLastPut}
@@ -15,15 +18,17 @@ use Rattle.tj_log.specs.declared.entry.Entry.{Entry}
 use Rattle.tj_words.proofs.Stores.SeatLists.{word_here}
 use Rattle.tj_words.proofs.Stores.TableWords.{is_word, is_word_here}
 use Rattle.tj_words.proofs.Stores.TableWords as table_word
-use Rattle.tj_words.specs.CallLaws.CallRuns.{AreAskedMoments, IsAskedStep, acts_by}
+use Rattle.tj_words.specs.CallLaws.CallRuns.{AreAskedMoments, IsAskedStep}
 use Rattle.tj_words.specs.CallLaws.LoggedRuns.{AreStepsOf, IsEntry, in_order}
 use Rattle.tj_words.specs.CallLaws.RestedRuns.{Ruled, last_moment}
 use Rattle.tj_words.specs.CallLaws.StepCalls.{StepCall, place_of, told_by}
 use Rattle.tj_words.specs.CallLaws.StepCalls as call
 use Rattle.tj_words.specs.CallLaws.StepLogs.{did_of, entry_of, table_terms}
+use Rattle.tj_words.specs.Calls.ExchangeViews.{MaySwap, Swaps}
 use Rattle.tj_words.specs.SeatViews.SeatSteps.{SeatMe}
 use Rattle.tj_words.specs.Words.Offsets.{phase_at, word}
 use Rattle.tj_words.specs.Words.Phases.{phase_in}
+use Rattle.tj_words.specs.declared.phase.Phase.{Phase}
 use Rattle.tj_words.specs.declared.phase.Phase.TheVariants as phase
 use Rattle.tj_words.specs.declared.record.Rec.{Rec}
 use Rattle.tj_words.specs.declared.table.Key.{Key}
@@ -69,17 +74,27 @@ module _ {B : Type 0} (program : Bool → B → Program B) (key : Key B) where
   stored_number (call.sees_phase_by u c) t n k st m m' on does told = absurd (cc)
   stored_number a t n k st m m' on does told = absurd (cc)
 
-  -- an exchange on PHASE that succeeds, for Running, takes the record
-  exchange_takes : (a : StepCall) (t k : ℕ) (st : Step (Option (Rec B))) (m : SeatMe B) (act : Act (Option (Rec B)))
-      → is_word (word_of a) (table_word.Phase t) ≡ true → Exchange ≡ did_of a → acts_by program key a st k m act
-      → k ≡ st.first → phase_in st.second ≡ phase.Running → (r : Rec B) × (act ≡ takes t (Some r))
-  exchange_takes (call.swaps_phase c) t k st m act on does acts found runs =
+  -- an exchange from Ready, or from Parked, for Running takes the record, and the view says so
+  swap_takes : (t : ℕ) (was to : Phase) (m m' : SeatMe B) → MaySwap t was to m.0 → Swaps program t was to m m'
+      → to ≡ phase.Running → (r : Rec B) × (m'.1 ≡ (t, Some r) ∷ m.1) × (m'.0.records ≡ r ∷ m.0.records)
+  swap_takes t was to m m' (inl h) s runs = let c = s.claims h.0 in
+      (c.0, ap (λ (z : SeatMe B). z.1) c.2, ap (λ (z : SeatMe B). z.0.records) c.2)
+  swap_takes t was to m m' (inr h) s runs = let c = s.goes_back h.0 h.1 h.2 runs in
+      (c.0, ap (λ (z : SeatMe B). z.1) c.3, ap (λ (z : SeatMe B). z.0.records) c.3)
+
+  -- so does an exchange on PHASE that succeeds, whatever call it is
+  exchange_takes : (a : StepCall) (t n k : ℕ) (st : Step (Option (Rec B))) (m m' : SeatMe B)
+      → is_word (word_of a) (table_word.Phase t) ≡ true → Exchange ≡ did_of a → told_by program key.cells a n st m k m'
+      → k ≡ st.first → phase_in st.second ≡ phase.Running
+      → (r : Rec B) × (m'.1 ≡ (t, Some r) ∷ m.1) × (m'.0.records ≡ r ∷ m.0.records)
+  exchange_takes (call.swaps_phase c) t n k st m m' on does told found runs =
       let e : c ≡ t = eqb-true c t on in
-      subst (λ z. (r : Rec B) × (act ≡ takes z (Some r))) e ((acts.0 found).0 runs)
-  exchange_takes (call.puts_phase c) t k st m act on does acts found runs = absurd (cc)
-  exchange_takes (call.sees_phase c) t k st m act on does acts found runs = absurd (cc)
-  exchange_takes (call.sees_phase_by u c) t k st m act on does acts found runs = absurd (cc)
-  exchange_takes a t k st m act on does acts found runs = absurd (cc)
+      subst (λ z. (r : Rec B) × (m'.1 ≡ (z, Some r) ∷ m.1) × (m'.0.records ≡ r ∷ m.0.records)) e
+      (swap_takes c (phase_in st.first) (phase_in st.second) m m' told.2.0 (told.2.1.0 found) runs)
+  exchange_takes (call.puts_phase c) t n k st m m' on does told found runs = absurd (cc)
+  exchange_takes (call.sees_phase c) t n k st m m' on does told found runs = absurd (cc)
+  exchange_takes (call.sees_phase_by u c) t n k st m m' on does told found runs = absurd (cc)
+  exchange_takes a t n k st m m' on does told found runs = absurd (cc)
 
   module _ (j t n : ℕ) (good : IsForGood (phase_in n)) where
     -- after the step the phase is this
@@ -135,14 +150,21 @@ records_as_put B program key s run x y came id t n m slots act runs stands =
     let told = step.told in
     let place : phase_at t ≡ place_of told.call = told.at in
     let on = is_word_here (table_word.Phase t) (word_of told.call) (sym (placed told.call) ∙ sym place) in
-    let took = exchange_takes program key told.call t (word x.words (phase_at t)) _ _ told.act on told.does told.acts
-    (sym step.found) runs in
-    let is : act ≡ takes t (Some took.0) = taken_so slots act t (Some took.0) step.plain
-    (told.slots ∙ ap (carried_after slots) took.1) in
+    let took = exchange_takes program key told.call t _ (word x.words (phase_at t)) _ (step.view, slots)
+    (step.view_after, carried_after slots act) on told.does told.told (sym step.found) runs in
+    let is : act ≡ takes t (Some took.0) = taken_so slots act t (Some took.0) step.plain took.1 in
     let again : IsRun terms y (steps came x id e slots (takes t (Some took.0))) =
     subst (λ a. IsRun terms y (steps came x id e slots a)) is ran in (
       took.0,
       is,
       subst (λ l. IsLastPut t (Some took.0) l came) again.opens.1
           ((as_put terms).taken y x came id e slots t (Some took.0) again),
+      (
+        step.view,
+        step.view_after,
+        step.at,
+        ap (λ (z : State (Option (Rec B)) (View B)). get_elem? z.views id) step.after
+            ∙ set_here x.views id step.view_after (at_bound x.views id step.view step.at),
+        took.2,
+      ),
     )

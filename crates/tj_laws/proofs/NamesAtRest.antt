@@ -10,8 +10,8 @@ use Rattle.tj_body.specs.Programs.{Program}
 use Rattle.tj_body.specs.declared.point.Reference.{Reference}
 use Rattle.tj_words.specs.AtRest.ClosedCells.{AreNamed, IsShown}
 use Rattle.tj_words.specs.AtRest.ShownCells.{AreCellsOf, cell_of, maker_in}
-use Rattle.tj_words.specs.CallLaws.AlikeSeats.{SeatsKnowForGood}
-use Rattle.tj_words.specs.CallLaws.OwnRuns.{OwnRunsStand, StandsFrom}
+use Rattle.tj_runs.specs.AlikeSeats.{SeatsKnowForGood}
+use Rattle.tj_runs.specs.OwnRuns.{OwnRunsStand, StandsFrom}
 use Rattle.tj_words.specs.CallLaws.RestedRuns.{Ruled, last_moment}
 use Rattle.tj_words.specs.Law.{Rule}
 use Rattle.tj_words.specs.LawParts.Contents.{contents_of, drawn_in, hand_of}

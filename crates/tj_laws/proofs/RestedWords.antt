@@ -22,7 +22,7 @@ use Rattle.tj_words.specs.declared.view.Hand.{Hand}
 use Rattle.tj_words.specs.declared.view.View.{View}
 use Rattle.tj_words.specs.Law.{Law}
 use Rattle.tj_words.specs.CallLaws.CallRuns.{IsAskedCall, IsAskedStep, acts_by, asked_by, phase_act}
-use Rattle.tj_words.specs.CallLaws.LastingWords.{CellsAreForGood}
+use Rattle.tj_runs.specs.LastingWords.{CellsAreForGood}
 use Rattle.tj_words.specs.CallLaws.RestedRuns.{IsTableStep, Ruled, last_moment}
 use Rattle.tj_words.specs.CallLaws.StepCalls.{StepCall, place_of, told_by}
 use Rattle.tj_words.specs.CallLaws.StepCalls as call
@@ -43,7 +43,8 @@ use Rattle.tj_words.specs.Words.Offsets.{count_at, live_at, own_at, phase_at, st
 use Rattle.tj_words.specs.Words.Owners.{owner_in}
 use Rattle.tj_words.specs.Words.Phases.{phase_in}
 use Rattle.tj_words.proofs.Prelude.{at_map, set_here}
-use Rattle.tj_words.proofs.Lemmas.{begun_there, hand_found, inside, step_stays}
+use Rattle.tj_words.proofs.Lemmas.{begun_there, hand_found, inside}
+use Rattle.tj_runs.proofs.CallStores.{step_stays}
 use Rattle.tj_words.proofs.SeatLoads.KnowLoads.{hand_not}
 use Rattle.tj_words.proofs.Stores.TableWords.{TableWord, index, is_word}
 use Rattle.tj_words.proofs.Stores.TableWords as table_word

@@ -7,8 +7,8 @@ use Rattle.tj_body.specs.Programs.{Program}
 use Rattle.tj_words.specs.AtRest.ClosedCells as closed
 use Rattle.tj_words.specs.AtRest.ShownCells.{cell_of}
 use Rattle.tj_words.specs.CallLaws.CallRuns.{CallRunsAreRuns}
-use Rattle.tj_words.specs.CallLaws.LastingWords.{CellsAreForGood}
-use Rattle.tj_words.specs.CallLaws.OwnRuns.{OwnRunsStand}
+use Rattle.tj_runs.specs.LastingWords.{CellsAreForGood}
+use Rattle.tj_runs.specs.OwnRuns.{OwnRunsStand}
 use Rattle.tj_words.specs.CallLaws.RestedRuns.{Ruled, last_moment}
 use Rattle.tj_words.specs.Law.{Law}
 use Rattle.tj_words.specs.LawParts.Contents.{Contents, contents_of, drawn_in}

@@ -29,7 +29,7 @@ use Rattle.tj_words.specs.declared.view.View.{View}
 use Rattle.tj_words.specs.Law.{Law}
 use Rattle.tj_words.specs.CallLaws.CallRuns.{CallRunsAreRuns, IsAskedStep, IsIdleMerge, acts_by}
 use Rattle.tj_words.specs.CallLaws.CallRuns.{asked_by, joined, live_act, phase_act, takes_new}
-use Rattle.tj_words.specs.CallLaws.LastingWords.{CountNeverFalls}
+use Rattle.tj_runs.specs.LastingWords.{CountNeverFalls}
 use Rattle.tj_words.specs.CallLaws.RestedRuns.{Ruled}
 use Rattle.tj_words.specs.CallLaws.StepCalls.{StepCall, place_of, told_by}
 use Rattle.tj_words.specs.CallLaws.StepCalls as call

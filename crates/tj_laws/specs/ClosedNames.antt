@@ -7,7 +7,7 @@ use Rattle.tj_body.specs.declared.point.Reference.{Reference}
 use Rattle.tj_log.specs.Shown.{SeatShown}
 use Rattle.tj_words.specs.AtRest.ClosedCells.{AreNamed}
 use Rattle.tj_words.specs.AtRest.EndedRuns.{EndsRun}
-use Rattle.tj_words.specs.CallLaws.OwnRuns.{AreTheLast}
+use Rattle.tj_runs.specs.OwnRuns.{AreTheLast}
 use Rattle.tj_words.specs.CallLaws.RestedRuns.{Ruled, live_in}
 use Rattle.tj_words.specs.LawParts.TreeWords.{IsCell}
 use Rattle.tj_words.specs.declared.closed.RestCell.{RestCell}

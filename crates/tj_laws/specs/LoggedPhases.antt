@@ -1,6 +1,8 @@
 -- What the log of a seat says of PHASE and of records, in the run that the table has: a store of a phase that is for
 -- good stands, and an exchange by which a task runs took the record that was put home last.
-use Rattle.std.specs.Prelude.{◌≡◌, ◌⊎◌, ℕ, Bool, List, Option, Some}
+use Rattle.std.specs.Prelude.{◌≡◌, ◌⊎◌, ℕ, ◌∷◌, Bool, List, Option, Some}
+use lib.ListN.{get_elem?}
+use mathlib.Core.Option.{some}
 use Rattle.atomic_table.specs.Table.{Act, State, takes}
 use Rattle.tj_body.specs.Points.{IsIn}
 use Rattle.tj_body.specs.Programs.{Program}
@@ -31,8 +33,13 @@ module _ (B : Type 0) where
       → HasLogged j (entry_of (call.puts_phase t) n 0 n) run.past
       → (contents_of s).words.phase t ≡ phase_in n
 
+  -- the step from x to y put this record in front of those that the view of the seat id says that its steps took
+  abbrev pub NotesRecord : ℕ → Rec B → State (Option (Rec B)) (View B) → State (Option (Rec B)) (View B) → Type 0
+  NotesRecord id r x y = (v w : View B) × (get_elem? x.views id ≡ some v) × (get_elem? y.views id ≡ some w)
+      × (w.records ≡ r ∷ v.records)
+
   -- a step of the run that exchanged a phase of t, which it found, for Running took a record from the slot of t: the
-  -- one that the last step on this slot put there, or that lay there at first
+  -- one that the last step on this slot put there, or that lay there at first; and the seat's view says so
   abbrev pub RecordsAreAsPut : Type 0
   RecordsAreAsPut = (program : Bool → B → Program B) (key : Key B) (s : State (Option (Rec B)) (View B))
       (run : HasRun program key s) (x y : State (Option (Rec B)) (View B)) (came : Past (Option (Rec B)) (View B))
@@ -40,4 +47,4 @@ module _ (B : Type 0) where
       → phase_in m ≡ phase.Running
       → StandsIn y (steps came x id (entry_of (call.swaps_phase t) n m n) slots act) s run.past
       → (r : Rec B) × (act ≡ takes t (Some r))
-      × IsLastPut t (Some r) (first_slots key.cells key.root.value) came
+      × IsLastPut t (Some r) (first_slots key.cells key.root.value) came × NotesRecord id r x y

@@ -12,7 +12,7 @@ use Rattle.tj_words.specs.AtRest.ClosedCells as closed
 use Rattle.tj_words.specs.AtRest.EndedRuns.{EndsRun}
 use Rattle.tj_words.specs.AtRest.RestMeaning.{AreWordsOf}
 use Rattle.tj_words.specs.CallLaws.LoggedRuns.{HasRun}
-use Rattle.tj_words.specs.CallLaws.OwnRuns.{AreTheLast}
+use Rattle.tj_runs.specs.OwnRuns.{AreTheLast}
 use Rattle.tj_words.specs.CallLaws.RestedRuns.{Ruled}
 use Rattle.tj_words.specs.LawParts.Contents.{Contents, contents_of}
 use Rattle.tj_words.specs.LawParts.ShownState.{reference_of}

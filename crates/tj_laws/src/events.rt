@@ -3,7 +3,7 @@
 ghost use Rattle.tj_laws.specs.Closes.{ClosersOwn, ClosesAreOnce, UnwaitsHaveSettled, AlarmsAreLast};
 ghost use Rattle.tj_laws.specs.TableEvents.{EventsAreOnce};
 
-use tj_words::call_runs;
+use tj_runs::call_runs;
 
 /// In every legal run each cell is closed at most once, by its owner at that moment; a wait that is
 /// cleared has settled before; and a task that has alarmed makes no event after it.

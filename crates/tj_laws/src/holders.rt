@@ -2,7 +2,7 @@
 ghost use Rattle.tj_laws.specs.Holders.{OneSeatHolds, HoldersLast, HeldThroughout};
 ghost use Rattle.tj_laws.specs.Holders.{LaidThroughout, LoneSeatsHold, ReadiedOncePerClaim};
 
-use tj_words::{call_runs, lasting_words};
+use tj_runs::{call_runs, lasting_words};
 
 /// One seat at most holds a task. At each step that seat holds it still, or nobody does and its
 /// record lies at home; and the record at home of a task that nobody holds stays as it is until a

@@ -10,6 +10,8 @@ pub fn logged_phases<B>()
     ensures stand { LoggedPhasesStand B }
     // A step of the run that exchanged a phase of a task, which it found, for Running, as that of
     // `tj_park::claim` and of `park` that answers `Back`, took a record from the slot of the task:
-    // the one that the last step on this slot put there, or the root's first one.
+    // the one that the last step on this slot put there, or the root's first one. The view of the
+    // seat has this record in front of those that its steps took; so it is the one that these calls
+    // hand out, by their `some` and `back`.
     ensures records { RecordsAreAsPut B }
 {}

@@ -2,7 +2,7 @@
 //! alone, so the functions do nothing: who calls one may rest on its clauses.
 ghost use Rattle.tj_laws.specs.TableWaits.{EveryMoment, NoOtherWaitNoCycle};
 
-use tj_words::call_runs;
+use tj_runs::call_runs;
 
 /// At every moment a task whose PHASE is Alarmed is on a cycle of waits that stands, by the words
 /// themselves, and each cycle of waits that stands has a member that has alarmed or whose walk isn't

@@ -4,7 +4,7 @@ ghost use Rattle.tj_laws.specs.OwnMoments.{OwnMomentsStand, AlarmsAreClosed};
 ghost use Rattle.tj_laws.specs.OwnMoments.{ClosedCyclesAreMeant};
 ghost use Rattle.tj_laws.specs.SlotsInHand.{HandsAreApart, RecordsStayHome};
 
-use tj_words::{alike_seats, call_runs, lasting_words, own_runs};
+use tj_runs::{alike_seats, call_runs, lasting_words, own_runs};
 
 /// Each moment of a table's own run is as the laws of moments say, and what has alarmed, stands, has
 /// ended, was stopped or has come to rest then is so still of what stands. So what has alarmed at

@@ -2,7 +2,7 @@
 ghost use Rattle.tj_laws.specs.RestedTables.{RestedTablesStay, NoneInHandAtRest, StopsStay};
 ghost use Rattle.tj_laws.specs.RestedTables.{LiveIsSomebodys};
 
-use tj_words::lasting_words;
+use tj_runs::lasting_words;
 
 /// Once LIVE is 0 it stays 0, no cell is drawn any more, and TAG, OWN, PHASE and the records at home
 /// stay; in a run from a new table no cell is in hand then. STOP never returns to 0. Where LIVE isn't

@@ -10,12 +10,7 @@ use Rattle.tj_words.specs.declared.view.Push.{Push}
 use Rattle.tj_words.specs.Calls.ChainSteps.{HasPush, HasPushBehind, KnowsEntry, pushed, stored_next, with_next}
 use Rattle.tj_words.specs.SeatViews.SeenWords.{FindsChain, FindsShut}
 use Rattle.tj_words.proofs.SeatLoads.KnowsMoreOn.{hand_on, counts_on}
-use Rattle.tj_words.specs.declared.view.About.{About}
-use Rattle.tj_words.specs.SeatViews.Moments.{WasSo}
-use Rattle.tj_words.specs.Words.Heads.{shut_word}
-use Rattle.tj_words.specs.Words.Offsets.{head_at}
 use Rattle.tj_park.specs.Inner.JoinViews.{last_found, pushes_left}
-use Rattle.tj_park.proofs.PushRooms.{found_room}
 use Rattle.tj_words.specs.declared.head.Head.TheVariants as head
 use Rattle.tj_words.specs.SeatViews.Views.{found_shut}
 
@@ -49,12 +44,9 @@ as_long xs (y ∷ more) = let b = as_long xs more in omega arith
 more_found : (n last old new now : ℕ) → n ≤ suc last → last ≡ old → old < new → now ≡ new → suc n ≤ suc now
 more_found n last old new now a b c d = omega arith
 
-no_more_found : (n last old new cells : ℕ) → n ≤ suc last → last ≡ old → old < new → new ≤ cells → suc n ≤ suc cells
-no_more_found n last old new cells a b c d = omega arith
-
 -- and it lacks one task of the table
-fewer_found : (n last old b cells : ℕ) → n ≤ suc last → last ≡ old → suc (suc old) ≤ b → b ≡ cells → suc n ≤ cells
-fewer_found n last old b cells a e l q = omega arith
+fewer_found : (n last old new cells : ℕ) → n ≤ suc last → last ≡ old → old < new → suc new ≤ cells → suc n ≤ cells
+fewer_found n last old new cells a e l q = omega arith
 
 -- how many pushes are left after the last chain that was found
 left_open : (cells : ℕ) (behind : Head) (fs : List Found) → behind ≢ head.Shut
@@ -100,6 +92,7 @@ module _ {B : Type 0} where
     rest = q.rest ∙ p.rest;
     plain_loads = q.plain_loads ∙ p.plain_loads;
     once_loads = q.once_loads ∙ p.once_loads;
+    records = q.records ∙ p.records;
   }
 
   -- the seat has found this chain of q last, whose head this is
@@ -128,8 +121,7 @@ module _ {B : Type 0} where
     pub chains : List Found
     pub found : w.found ≡ chains ++ v.found
     pub few : length chains ≤ suc (length (last_found w.found))
-    pub most : length chains ≤ suc cells
-    pub fewer : (a : About B) → v.about ≡ Some a → a.cells ≡ cells → length chains ≤ cells
+    pub most : length chains ≤ cells
     pub closed : w.closed ≡ closed_with q behind v.closed
 
   -- a view in which only steps, pushes and found chains differ, and what is known of the table has grown
@@ -148,6 +140,7 @@ module _ {B : Type 0} where
     rest = refl;
     plain_loads = refl;
     once_loads = refl;
+    records = refl;
   }
 
   shut_looks : {program : Bool → B → Program B} (cells q : ℕ) (v w : View B) → FindsShut program cells q v w
@@ -210,7 +203,6 @@ module _ {B : Type 0} where
       found = f.4;
       few = omega arith;
       most = omega arith;
-      fewer = λ a e c. omega arith;
       closed = f.5;
     }
     joining_first {way = way} filled h v w e s o = let f = o (λ z. cc) in
@@ -226,8 +218,7 @@ module _ {B : Type 0} where
           chains = record { cell = q; chain = f.chain } ∷ [];
           found = l.1;
           few = omega arith;
-          most = omega arith;
-          fewer = λ a e c. filled;
+          most = filled;
           closed = l.4;
         }
 
@@ -285,7 +276,6 @@ module _ {B : Type 0} where
             chains = j.chains;
             found = ap (λ (z : View B). z.found) e ∙ (stored_found ∙ j.found);
             few = j.most;
-            fewer = j.fewer;
           },
           ap (λ (z : View B). z.closed) e ∙ (stored_closed ∙ closed_open q behind v.closed opened),
         )
@@ -321,19 +311,17 @@ module _ {B : Type 0} where
               by head.Empty e = more (λ y. let d : head.Empty ≡ head.Shut = sym e ∙ y in cc)
               by (head.Task z) e = more (λ y. let d : head.Task z ≡ head.Shut = sym e ∙ y in cc)
 
-          pub joining_next : cells < shut_word → WasSo program (head_at q) (head_word h) u → Joining cells t q h v x
-          joining_next little moment = by h refl
+          pub joining_next : Joining cells t q h v x
+          joining_next = by h refl
             where
               went : x.steps ≡ suc u.steps → x.steps + 2 * pushes_left cells h x.found ≤ v.steps + join_steps cells
               went s = next_cost x.steps u.steps w.steps v.steps (pushes_left cells h x.found)
                   (pushes_left cells behind w.found) (join_steps cells) s stored_steps fewer j.cost
 
-              lacks : h ≢ head.Shut → (f : FindsChain cells q h u x) → (a : About B) → v.about ≡ Some a
-                  → a.cells ≡ cells → suc (length j.chains) ≤ cells
-              lacks n f a e c = fewer_found (length j.chains) (length (last_found w.found)) (length at.chain) a.cells
-                  cells j.few (ap (λ fs. length (last_found fs)) at.found)
-                  (found_room program q u cells h little f.small n moment has_push_behind.0 has_push_behind.1
-                  at.chain found_before (λ z. fails (z ∙ sym at.is)) a (stored_looks.knows.about ∙ e)) c
+              lacks : (f : FindsChain cells q h u x) → suc (length j.chains) ≤ cells
+              lacks f = fewer_found (length j.chains) (length (last_found w.found)) (length at.chain) (length f.chain)
+                  cells j.few (ap (λ fs. length (last_found fs)) at.found) (grown h x f fails)
+                  (f.room has_push_behind.0 has_push_behind.1)
 
               more : h ≢ head.Shut → Joining cells t q h v x
               more n = let f = other fails n in let l = chain_looks cells q h u x f in record {
@@ -350,10 +338,7 @@ module _ {B : Type 0} where
                 few = more_found (length j.chains) (length (last_found w.found)) (length at.chain) (length f.chain)
                     (length (last_found x.found)) j.few (ap (λ fs. length (last_found fs)) at.found) (grown h x f fails)
                     (ap (λ fs. length (last_found fs)) l.1);
-                most = no_more_found (length j.chains) (length (last_found w.found)) (length at.chain)
-                    (length f.chain) cells j.few (ap (λ fs. length (last_found fs)) at.found)
-                    (grown h x f fails) f.short;
-                fewer = lacks n f;
+                most = lacks f;
                 closed = l.4 ∙ (still_open ∙ sym (closed_open q h v.closed n));
               }
 
@@ -371,7 +356,6 @@ module _ {B : Type 0} where
                 found = f.4 ∙ (stored_found ∙ j.found);
                 few = subst (λ fs. length j.chains ≤ suc (length (last_found fs))) (sym (f.4 ∙ stored_found)) j.few;
                 most = j.most;
-                fewer = j.fewer;
                 closed = f.5 ∙ (ap (λ (l : List ℕ). q ∷ l) still_open
                     ∙ sym (ap (λ (y : Head). closed_with q y v.closed) e));
               }
@@ -394,7 +378,7 @@ module _ {B : Type 0} where
     -- so many chains were found
     pub found_chains : {behind : Head} {v w : View B} → Joining cells t q behind v w
         → HasFoundChains cells v w
-    found_chains j = record { chains = j.chains; found = j.found; few = j.most; fewer = j.fewer }
+    found_chains j = record { chains = j.chains; found = j.found; few = j.most }
 
     -- the steps are as few as they are to be
     pub few_steps : (behind : Head) (v w : View B) → Joining cells t q behind v w

@@ -1,6 +1,5 @@
 pub mod TakenTasks
 pub mod LeftTasks
-mod PushRooms
 mod Joining
 mod ParkedViews
 mod Returns

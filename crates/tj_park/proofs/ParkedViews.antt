@@ -105,7 +105,7 @@ module _ {B : Type 0} where
                   plain_loads = looks.plain_loads;
                   once_loads = looks.once_loads;
                   steps = left_steps w.steps v.steps cells few;
-                  pushes = record { chains = news.chains; found = news.found; few = news.few; fewer = news.fewer };
+                  pushes = record { chains = news.chains; found = news.found; few = news.few };
                 };
                 tasks = looks.tasks;
                 closed = closed;
@@ -166,7 +166,6 @@ module _ {B : Type 0} where
               chains = news.chains;
               found = b.found ∙ news.found;
               few = news.few;
-              fewer = news.fewer;
             };
           };
           tasks = b.tasks ∙ ap (hold (custody_of x)) looks.tasks;
@@ -175,6 +174,7 @@ module _ {B : Type 0} where
           shut = b.knows.closed q shut.1;
           closed = b.closed ∙ closed;
           entry = (shut.2.0, b.knows.filled shut.2.0 shut.2.1, shut.2.2);
+          records = b.records ∙ ap (λ l. x ∷ l) looks.records;
         }
 
     -- the record was put into its slot, so Parked may be stored
@@ -210,7 +210,6 @@ module _ {B : Type 0} where
           chains = chains.chains;
           found = chains.found ∙ ap (λ (z : SeatMe B). chains.chains ++ z.0.found) is_parked;
           few = chains.few;
-          fewer = λ a e. chains.fewer a (ap (λ (z : SeatMe B). z.0.about) is_parked ∙ e);
         }
 
         module _ (was_added : b ≡ true) (none : HasNoRecord l) where

@@ -83,4 +83,5 @@ module _ {B : Type 0} where
         steps = refl;
         plain_loads = refl;
         once_loads = refl;
+        records = refl;
       }

@@ -1,5 +1,5 @@
 -- What `release`, `claim` and `shelve` ask of the seat, and what they make of it.
-use Rattle.std.specs.Prelude.{◌≡◌, ◌≢◌, ℕ, suc, ◌-◌, ◌<◌, Bool, Some}
+use Rattle.std.specs.Prelude.{◌≡◌, ◌≢◌, ℕ, suc, ◌-◌, ◌<◌, ◌∷◌, Bool, Some}
 use Rattle.tj_body.specs.Programs.{Program}
 use Rattle.tj_body.specs.declared.ask.Answer.TheVariants as answer
 use Rattle.tj_events.specs.declared.walk.Way.{Way}
@@ -47,6 +47,8 @@ module _ {B : Type 0} where
     pub steps : w.steps ≡ suc v.steps
     pub plain_loads : w.plain_loads ≡ v.plain_loads
     pub once_loads : w.once_loads ≡ v.once_loads
+    -- the seat's step took this record
+    pub records : w.records ≡ r ∷ v.records
 
   -- the seat holds t, which has alarmed, of which this is the record, which waits for its cell; it has a token, and one
   -- more where it holds another task that has alarmed

@@ -1,5 +1,5 @@
 -- What `park` asks of the seat, and what it makes of it.
-use Rattle.std.specs.Prelude.{◌≡◌, ℕ, suc, ◌+◌, ◌*◌, ◌≤◌, Bool, List, ◌∷◌, ◌++◌, length, Some}
+use Rattle.std.specs.Prelude.{◌≡◌, ℕ, ◌+◌, ◌*◌, ◌≤◌, Bool, List, ◌∷◌, ◌++◌, length, Some}
 use Rattle.tj_body.specs.Points.{IsIn}
 use Rattle.tj_body.specs.Programs.{Program}
 use Rattle.tj_events.specs.declared.walk.Way.{Way}
@@ -46,13 +46,11 @@ module _ {B : Type 0} where
       pub room : v.cleared + raised_by_way way ≤ v.lot
       pub alarms : AlarmsLeave 0 v
 
-  -- since then the seat has found chains, by loads of a head and by pushes that failed: at most one more than there are
-  -- cells, and no more than cells where the seat is of a table of so many
+  -- since then the seat has found chains, by loads of a head and by pushes that failed: no more than there are cells
   pub record HasFoundChains (cells : ℕ) (v w : View B) : Type 0 where
     pub chains : List Found
     pub found : w.found ≡ chains ++ v.found
-    pub few : length chains ≤ suc cells
-    pub fewer : (a : About B) → v.about ≡ Some a → a.cells ≡ cells → length chains ≤ cells
+    pub few : length chains ≤ cells
 
   -- the seat knows more, and has nothing to come; no load was made that is counted. What it knew as the cells of the
   -- table it knows as these still. A push that fails adds a chain to those found, or its cell to those closed, and the
@@ -84,3 +82,5 @@ module _ {B : Type 0} where
     pub shut : IsIn q w.closed
     pub closed : w.closed ≡ q ∷ v.closed
     pub entry : KnowsEntry q w
+    -- the seat's steps took one record, which is this one
+    pub records : w.records ≡ r ∷ v.records

@@ -4,9 +4,7 @@ ghost use Rattle.tj_body.specs.Programs.{program_of};
 ghost use Rattle.tj_words.specs.Calls.ExchangeViews.{KnowsTable, missed};
 ghost use Rattle.tj_words.specs.CallLaws.StepCalls as call;
 ghost use Rattle.tj_words.specs.CallLaws.StepLogs.{IsLogged};
-ghost use Rattle.tj_words.specs.SeatViews.Moments.{WasSo};
 ghost use Rattle.tj_words.specs.SeatViews.SeatSteps.{IsCellOf, IsSeatOf};
-ghost use Rattle.tj_words.specs.Words.Offsets.{phase_at};
 ghost use Rattle.tj_words.specs.Words.Phases.{phase_word};
 ghost use Rattle.tj_park.specs.ChildViews.{Claimed};
 
@@ -27,17 +25,15 @@ pub fn claim<B: Body>(laid: &Laid<B>, seat: &mut WSeat<B>, t: CellId) -> Option<
     // It is the same seat.
     ensures id { seat.new.id ≡ seat.old.id }
     // None comes only where the one exchange of this call found the task in another phase than
-    // Ready: in some table under the law a seat has the view before the call while PHASE of the
-    // task is this phase; the seat is as it was, a step later, and its view notes the phase. This
-    // one exchange is the call's only step, and it found this phase.
+    // Ready: the seat is as it was, a step later, and its view notes the phase. This one exchange
+    // is the call's only step, and it found this phase.
     ensures none { result ≡ None → (p : Phase) × (p ≢ Phase.Ready)
         × (seat.new.me ≡ (missed t.0 p seat.old.me.0, seat.old.me.1))
-        × WasSo (program_of B.places B.awaits B.left B.asks B.then) (phase_at t.0) (phase_word p)
-        seat.old.me.0
         × IsLogged (call.swaps_phase t.0) (phase_word Phase.Ready) (phase_word Phase.Running)
         (phase_word p) seat.old seat.new }
     // The task is the seat's, as its record tells; the record tells a point of the task that is at
-    // its start or has waited for a cell of which the seat knows what has become.
+    // its start or has waited for a cell of which the seat knows what has become. It is the very
+    // record that the step of this call took out of home, which the seat's view has in front now.
     ensures some { IfSome result (λ r. Claimed (program_of B.places B.awaits B.left B.asks B.then)
         t.0 r seat.old.me.0 seat.new.me.0) }
     // Its slot is the seat's, and empty.

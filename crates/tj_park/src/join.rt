@@ -12,7 +12,7 @@ use tj_body::Body;
 use tj_words::{Head, Laid, WSeat};
 
 /// Adds task `t` to the chain of `q`. False says that the head of the chain was found shut. Each
-/// push that fails finds a longer chain, so there are at most as many as cells, and one more.
+/// push that fails finds a longer chain, so there are at most as many as cells.
 pub(crate) fn join_chain<B: Body>(laid: &Laid<B>, seat: &mut WSeat<B>, t: CellId, q: CellId) -> bool
     requires table { IsSeatOf laid.now seat.old }
     requires task { IsCellOf laid.now t.0 }

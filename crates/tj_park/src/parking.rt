@@ -56,7 +56,8 @@ pub fn park<B: Body>(
     // The task runs again with the seat, which knows that the chain of the cell is shut and what
     // has become of the cell; its counts are as before, and there were at most 2N + 6 steps. The
     // seat has found the head of this cell shut once, no other, and chains as with `left`: so at
-    // most N + 1 pushes failed.
+    // most N + 1 pushes failed. The record is the very one that the exchange took out of home,
+    // which the seat's view has in front now; no other was taken.
     ensures back { IfBack result (λ r. GaveBack
         (program_of B.places B.awaits B.left B.asks B.then) laid.now.cells t.0 q.0 r
         seat.old.me.0 seat.new.me.0) }

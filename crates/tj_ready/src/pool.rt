@@ -71,4 +71,10 @@ pub trait Pool: Sized + Send + Drop {
         // then it knows what it knew.
         ensures taken { MatchOption result (finds_none self.old self.new)
             (λ t. takes self.old t self.new) };
+
+    /// Whether the cell that this end took last was another's. A worker that is told so may pause where it can do
+    /// nothing with it but wait; no clause rests on it.
+    fn has_stolen(&self) -> bool {
+        false
+    }
 }

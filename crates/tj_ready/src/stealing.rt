@@ -27,6 +27,8 @@ pub struct RuledStealPool<V, K: PoolRule<V>> {
     // What the own deque handed back.
     spare: VecDeque<CellId>,
     others: Vec<Victim<V, K>>,
+    // Whether it was another's cell that it took last.
+    stole: bool,
     ghost flavor: { worker_flavor own ≡ flavor_of K.newest },
     ghost own_cells: { K.limit (worker_view own) ≡ cells },
     ghost spare_cells: { All (λ t. t.0 < cells) spare.items },
@@ -44,8 +46,8 @@ impl<V, K: PoolRule<V>> RuledStealPool<V, K> {
     ghost use Rattle.tj_ready.specs.Meetings.{Opens, Meets};
     ghost use Rattle.tj_ready.specs.Stealing.{IsNewEnd, EndsJoin, EndsMeet, deque_of, reach_of};
 
-    // An end that can take from no other yet.
-    fn alone<S: Size>(alloc: Global, cells: u32) -> Result<Self, Oom>
+    // An end that can take from no other yet, with room for so many others.
+    fn alone<S: Size>(alloc: Global, workers: u32, cells: u32) -> Result<Self, Oom>
         requires { (S.cells ≡ cells) × (0 < cells) }
         ensures { IfOk result (IsNewEnd cells) }
     {
@@ -53,7 +55,8 @@ impl<V, K: PoolRule<V>> RuledStealPool<V, K> {
             cells,
             own: owner::<V, K, S>(alloc, cells)?,
             spare: VecDeque::new(alloc),
-            others: Vec::new(alloc),
+            others: Vec::with_capacity(alloc, workers as usize)?,
+            stole: false,
         })
     }
 
@@ -164,7 +167,7 @@ impl<V, K: PoolRule<V>> Pool for RuledStealPool<V, K> {
     fn make<R: Wait>(_rt: &R, alloc: Global, workers: u32, cells: u32) -> Result<Vec<Self>, Oom> {
         let mut ends = Vec::with_capacity(alloc, workers as usize)?;
         for _i in 0..workers {
-            let mut end = Self::alone::<Brand>(alloc, cells)?;
+            let mut end = Self::alone::<Brand>(alloc, workers, cells)?;
             end.meet(&mut ends, cells)?;
             ends.push(end)?;
         }
@@ -179,12 +182,18 @@ impl<V, K: PoolRule<V>> Pool for RuledStealPool<V, K> {
     }
 
     fn take<R: Wait>(&mut self, rt: &R) -> Option<CellId> {
+        self.stole = false;
         if let Some(t) = self.take_own() {
             return Some(t);
         }
         if let Some(t) = self.take_spare() {
             return Some(t);
         }
+        self.stole = true;
         self.steal(rt)
+    }
+
+    fn has_stolen(&self) -> bool {
+        self.stole
     }
 }

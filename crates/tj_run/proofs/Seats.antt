@@ -6,3 +6,4 @@ pub mod SplitLots
 pub mod ThreadSends
 pub mod WorkersSteps
 pub mod QuietTasks
+pub mod LogGrowth

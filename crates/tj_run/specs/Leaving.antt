@@ -1,16 +1,15 @@
 -- How a worker leaves: it is at rest, or the run was stopped, and why.
-use Rattle.std.specs.Prelude.{◌≡◌, ℕ, Bool, true, List, [], ◌∷◌}
+use Rattle.std.specs.Prelude.{◌≡◌, ℕ, Bool, true, List, [], ◌∷◌, ◌++◌}
 use Rattle.tj_body.specs.Programs.{Program}
 use Rattle.tj_log.specs.declared.entry.Entry.{Entry}
 use Rattle.tj_words.specs.declared.view.View.{View}
+use Rattle.tj_cells.specs.CallLogs.{Seat}
 use Rattle.tj_words.specs.CallLaws.StepCalls as call
 use Rattle.tj_words.specs.CallLaws.StepLogs.{entry_of}
 use Rattle.tj_words.specs.SeatViews.FullMeaning.{NamesFull}
 use Rattle.tj_words.specs.SeatViews.KnowsMore.{IsTailOf}
-use Rattle.tj_words.specs.SeatViews.Moments.{WasSo}
 use Rattle.tj_words.specs.SeatViews.SeatSteps.{SeatMe}
 use Rattle.tj_words.specs.SeatViews.Views.{IsIdle, saw_rest, saw_stop}
-use Rattle.tj_words.specs.Words.Offsets.{live_at, stop_at}
 use Rattle.tj_run.specs.declared.why.Why.{Why}
 use Rattle.tj_run.specs.declared.why.Why.TheVariants as why
 use Rattle.tj_run.specs.declared.why.Left.{Left}
@@ -21,13 +20,18 @@ abbrev pub stop_word : Why → ℕ
 stop_word why.Full = 1
 stop_word why.Memory = 2
 
--- the last step in the log of a worker's seat, by how it leaves: it loaded LIVE as 0, or STOP as what says why
-abbrev pub EndsLog : Left → List Entry → Type 0
-EndsLog left.Rested log = (before : List Entry) × (log ≡ entry_of call.sees_live 0 0 0 ∷ before)
-EndsLog (left.Stopped cause) log = (before : List Entry)
-    × (log ≡ entry_of call.sees_stop 0 0 (stop_word cause) ∷ before)
+-- the last step of a worker, by how it leaves: it loaded LIVE as 0, or STOP as what says why
+abbrev pub last_entry : Left → Entry
+last_entry left.Rested = entry_of call.sees_live 0 0 0
+last_entry (left.Stopped cause) = entry_of call.sees_stop 0 0 (stop_word cause)
 
 module _ {B : Type 0} where
+  -- the log of the seat is longer by some steps, the last of which is the one by which a worker leaves like this; and
+  -- the seat has taken in no other one
+  abbrev pub EndsLog : Left → Seat B → Seat B → Type 0
+  EndsLog how old new =
+      (since : List Entry) × (new.log ≡ last_entry how ∷ (since ++ old.log)) × (new.took ≡ old.took)
+
   -- what a run that was stopped for this tells of the meaning
   abbrev pub IsTold : (Bool → B → Program B) → Why → View B → Type 0
   IsTold program why.Full v = NamesFull program v
@@ -47,23 +51,21 @@ module _ {B : Type 0} where
     pub told : IsTold program cause v
 
   -- the last step of a call was a load of LIVE, which was 0 then
-  pub record FoundRest (program : Bool → B → Program B) (v w : View B) : Type 0 where
+  pub record FoundRest (v w : View B) : Type 0 where
     pub at : View B
     pub since : IsTailOf v.notes at.notes
-    pub was : WasSo program live_at 0 at
     pub loaded : w ≡ saw_rest at
 
   -- the last step of a call was a load of STOP, which said then why the run was stopped
-  pub record FoundStop (program : Bool → B → Program B) (cause : Why) (v w : View B) : Type 0 where
+  pub record FoundStop (cause : Why) (v w : View B) : Type 0 where
     pub at : View B
     pub since : IsTailOf v.notes at.notes
-    pub was : WasSo program stop_at (stop_word cause) at
     pub loaded : w ≡ saw_stop (stop_word cause) at
 
   -- what the last step of a worker found, by how it leaves
-  abbrev pub Found : (Bool → B → Program B) → Left → View B → View B → Type 0
-  Found program left.Rested v w = FoundRest program v w
-  Found program (left.Stopped cause) v w = FoundStop program cause v w
+  abbrev pub Found : Left → View B → View B → Type 0
+  Found left.Rested v w = FoundRest v w
+  Found (left.Stopped cause) v w = FoundStop cause v w
 
   -- how a worker leaves: it is at rest, or the run was stopped
   abbrev pub Leaves : (Bool → B → Program B) → Left → View B → SeatMe B → Type 0

@@ -1,5 +1,5 @@
 -- What stands after a run.
-use Rattle.std.specs.Prelude.{◌≡◌, ℕ, ◌+◌, ◌*◌, ◌<◌, ◌≤◌, Bool, List, Option, length}
+use Rattle.std.specs.Prelude.{◌≡◌, ℕ, ◌*◌, ◌<◌, ◌≤◌, Bool, Option, length}
 use Rattle.tj_body.specs.Programs.{Program}
 use Rattle.tj_log.specs.Shown.{SeatShown}
 use Rattle.tj_words.specs.declared.record.Rec.{Rec}

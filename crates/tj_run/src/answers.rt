@@ -2,6 +2,7 @@
 //! answer, or it ends the task.
 ghost use Rattle.std.specs.Prelude.{◌≡◌, ◌+◌, ◌<◌, ◌^◌, IfErr, IfOk, length};
 ghost use Rattle.tj_body.specs.Programs.{program_of};
+ghost use Rattle.tj_cells.specs.CallLogs.{Grows};
 ghost use Rattle.tj_run.specs.Workers.{table_program};
 ghost use Rattle.tj_run.specs.Inner.Carried.{IsWaiting, RunsTask};
 ghost use Rattle.tj_run.specs.Inner.Answers.{next_broken, with_lost, with_reference};
@@ -29,6 +30,7 @@ impl<B: Body, P: Pool, R: Wait> Post<'_, B, P, R> {
         requires waiting { IsWaiting (table_program (program_of B.places B.awaits B.left B.asks
             B.then) laid.now) self.old.seat.me.0 rec.old at.place at.spare }
         ensures stays { StaysAsked P.limit self.old self.new rec.old rec.new result }
+        ensures log { Grows self.old.seat self.new.seat }
         ensures goes { IfOk result (λ next. Goes (program_of B.places B.awaits B.left B.asks B.then)
             laid.now next rec.new self.old.seat.me.0 self.new.seat.me) }
         ensures waits { IfOk result (λ next. IsCauseOfWait next rec.old at.place at.spare
@@ -68,6 +70,7 @@ impl<B: Body, P: Pool, R: Wait> Post<'_, B, P, R> {
         requires back { ComesBack (program_of B.places B.awaits B.left B.asks B.then) laid.now
             rec.old self.old.seat.me.0 self.old.seat.me }
         ensures stays { Stays P.limit self.old self.new result }
+        ensures log { Grows self.old.seat self.new.seat }
         ensures goes { IfOk result (λ next. Goes (program_of B.places B.awaits B.left B.asks B.then)
             laid.now next rec.new self.old.seat.me.0 self.new.seat.me) }
         ensures answer { IfOk result HasAnswer }

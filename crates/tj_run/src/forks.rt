@@ -5,6 +5,7 @@ ghost use Rattle.tj_body.specs.Programs.{program_of};
 ghost use Rattle.tj_body.specs.declared.ask.Ask.TheVariants as ask;
 ghost use Rattle.tj_words.specs.SeatViews.SeatSteps.{IsCellOf, IsSameSeat, IsSeatOf};
 ghost use Rattle.tj_words.specs.Words.Lists.{All};
+ghost use Rattle.tj_cells.specs.CallLogs.{Grows};
 ghost use Rattle.tj_run.specs.Workers.{table_program};
 ghost use Rattle.tj_run.specs.Inner.Carried.{IsAsked, RunsTask};
 ghost use Rattle.tj_run.specs.Inner.Children.{MayGiveEach, gave_each, with_child};
@@ -39,6 +40,7 @@ impl<B: Body, P: Pool, R: Wait> Post<'_, B, P, R> {
         requires asked { IsAsked (table_program (program_of B.places B.awaits B.left B.asks B.then)
             laid.now) self.old.seat.me.0 rec.old (ask.Fork body pass handed) }
         ensures stays { StaysAsked P.limit self.old self.new rec.old rec.new result }
+        ensures log { Grows self.old.seat self.new.seat }
         ensures goes { IfOk result (λ next. Goes (program_of B.places B.awaits B.left B.asks B.then)
             laid.now next rec.new self.old.seat.me.0 self.new.seat.me) }
     {
@@ -84,6 +86,7 @@ impl<B: Body, P: Pool, R: Wait> Post<'_, B, P, R> {
         requires asked { IsAsked (table_program (program_of B.places B.awaits B.left B.asks B.then)
             laid.now) self.old.seat.me.0 rec.old (ask.Fork body pass []) }
         ensures stays { StaysAsked P.limit self.old self.new rec.old rec.new result }
+        ensures log { Grows self.old.seat self.new.seat }
         ensures goes { IfOk result (λ next. Goes (program_of B.places B.awaits B.left B.asks B.then)
             laid.now next rec.new self.old.seat.me.0 self.new.seat.me) }
     {
@@ -118,6 +121,7 @@ fn hand_each<B: Body>(
     requires may { MayGiveEach t.0 promises.now child.0 seat.old.me.0 }
     ensures seat { IsSameSeat seat.old seat.new }
     ensures view { seat.new.me.0 ≡ gave_each t.0 promises.now child.0 seat.old.me.0 }
+    ensures log { Grows seat.old seat.new }
 {
     for p in promises {
         hand(laid, seat, t, *p, child);

@@ -1,5 +1,7 @@
 //! How a worker that finds nothing to do waits before it looks again: it yields a few times, and then
-//! it sleeps, each time twice as long, up to some milliseconds. Nobody has to wake it.
+//! it sleeps, each time twice as long, up to some milliseconds. Nobody has to wake it. A worker whose
+//! tasks are others', and are parked at once, does the same, up to a millisecond: it only parks them
+//! before their time, with long walks.
 use std::sync::Wait;
 use std::thread::{self, Parker};
 use std::time::Duration;
@@ -9,6 +11,9 @@ const YIELDS: u32 = 8;
 
 // How often its sleep is doubled.
 const DOUBLINGS: u32 = 6;
+
+// How often where the worker parks tasks of others.
+const FEW_DOUBLINGS: u32 = 3;
 
 // The first sleep, in microseconds.
 const FIRST_SLEEP: u64 = 128;
@@ -27,10 +32,24 @@ impl Pauses {
 
     /// Pauses once more.
     pub(crate) fn pause<R: Wait>(&mut self, rt: &R) {
+        self.pause_up_to(rt, DOUBLINGS);
+    }
+
+    /// A task has left the worker. Where it was another's and was parked, the worker pauses once more.
+    pub(crate) fn after_turn<R: Wait>(&mut self, rt: &R, stolen: bool, parked: bool) {
+        if stolen && parked {
+            self.pause_up_to(rt, FEW_DOUBLINGS);
+        } else {
+            *self = Pauses::none();
+        }
+    }
+
+    // Pauses once more. The first sleep is doubled so often at most.
+    fn pause_up_to<R: Wait>(&mut self, rt: &R, most: u32) {
         if self.taken < YIELDS {
             thread::yield_now();
         } else {
-            let doublings = (self.taken - YIELDS).min(DOUBLINGS);
+            let doublings = (self.taken - YIELDS).min(most).min(DOUBLINGS);
             Parker::new().park_timeout(rt, Duration::from_micros(FIRST_SLEEP << doublings));
         }
         self.taken = self.taken.saturating_add(1);

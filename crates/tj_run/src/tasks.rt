@@ -1,6 +1,7 @@
 //! A claimed task runs ask by ask, until it ends or leaves its worker in a wait.
 ghost use Rattle.std.specs.Prelude.{◌≡◌, ◌⊎◌, ◌<◌, IfOk, OnOk};
 ghost use Rattle.tj_body.specs.Programs.{program_of};
+ghost use Rattle.tj_cells.specs.CallLogs.{Grows};
 ghost use Rattle.tj_run.specs.Workers.{table_program};
 ghost use Rattle.tj_run.specs.Inner.Carried.{IsAsked, IsRunning, RunsTask};
 ghost use Rattle.tj_run.specs.Inner.Going.{Goes, Stops, StopsWhere};
@@ -27,6 +28,7 @@ impl<B: Body, P: Pool, R: Wait> Post<'_, B, P, R> {
         requires running { IsRunning (table_program (program_of B.places B.awaits B.left B.asks
             B.then) laid.now) self.old.seat.me.0 rec.old }
         ensures stays { Stays P.limit self.old self.new result }
+        ensures log { Grows self.old.seat self.new.seat }
         ensures goes { IfOk result (λ next. Goes (program_of B.places B.awaits B.left B.asks B.then)
             laid.now next rec.new self.old.seat.me.0 self.new.seat.me) }
         ensures falls { IfOk result (λ next. Stops next
@@ -44,6 +46,7 @@ impl<B: Body, P: Pool, R: Wait> Post<'_, B, P, R> {
         requires asked { IsAsked (table_program (program_of B.places B.awaits B.left B.asks B.then)
             laid.now) self.old.seat.me.0 rec.old ask }
         ensures stays { StaysAsked P.limit self.old self.new rec.old rec.new result }
+        ensures log { Grows self.old.seat self.new.seat }
         ensures goes { IfOk result (λ next. Goes (program_of B.places B.awaits B.left B.asks B.then)
             laid.now next rec.new self.old.seat.me.0 self.new.seat.me) }
         ensures stops { IfOk result (StopsWhere ask) }
@@ -72,6 +75,7 @@ impl<B: Body, P: Pool, R: Wait> Post<'_, B, P, R> {
         requires back { ComesBack (program_of B.places B.awaits B.left B.asks B.then) laid.now
             rec.old self.old.seat.me.0 self.old.seat.me }
         ensures stays { Stays P.limit self.old self.new result }
+        ensures log { Grows self.old.seat self.new.seat }
         ensures goes { IfOk result (λ next. Goes (program_of B.places B.awaits B.left B.asks B.then)
             laid.now next rec.new self.old.seat.me.0 self.new.seat.me) }
         ensures stops { IfOk result Stops }
@@ -86,14 +90,15 @@ impl<B: Body, P: Pool, R: Wait> Post<'_, B, P, R> {
     }
 
     /// Runs a claimed task until it leaves the worker. It comes back where it has waited in vain:
-    /// something had become of its cell as it was to be parked.
+    /// something had become of its cell as it was to be parked. `parked` gets true where it leaves in a wait.
     // No measure: nothing tells that the record that comes back from `park` is the one laid down.
     #[inline(always)]
-    pub(crate) fn run(&mut self, laid: &Laid<B>, rec: Rec<B>) -> Result<(), Why>
+    pub(crate) fn run(&mut self, laid: &Laid<B>, rec: Rec<B>, parked: &mut bool) -> Result<(), Why>
         requires post { IsPostOf P.limit laid.now self.old }
         requires back { ComesBack (program_of B.places B.awaits B.left B.asks B.then) laid.now rec
             self.old.seat.me.0 self.old.seat.me }
         ensures stays { Stays P.limit self.old self.new result }
+        ensures log { Grows self.old.seat self.new.seat }
         ensures left { OnOk result (IsLeft laid.now self.old.seat.me.0 self.new.seat.me) }
     {
         let rt = self.rt;
@@ -108,7 +113,10 @@ impl<B: Body, P: Pool, R: Wait> Post<'_, B, P, R> {
                     place,
                     spare,
                 ) {
-                    None => return Ok(()),
+                    None => {
+                        *parked = true;
+                        return Ok(());
+                    }
                     Some(back) => rec = back,
                 },
                 Next::Ends(ending) => return self.end(laid, rec, ending),

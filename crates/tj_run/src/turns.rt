@@ -6,6 +6,7 @@ ghost use Rattle.tj_body.specs.Programs.{program_of};
 ghost use Rattle.tj_words.specs.Law.{IsRooted};
 ghost use Rattle.tj_words.specs.SeatViews.SeatSteps.{IsSameSeat, IsSeatOf};
 ghost use Rattle.tj_words.specs.SeatViews.Views.{saw_stop};
+ghost use Rattle.tj_cells.specs.CallLogs.{Grows};
 ghost use Rattle.tj_run.specs.Workers.{IsFree, table_program};
 ghost use Rattle.tj_run.specs.Leaving.{EndsLog, Found, FoundStop, HasStopped, Leaves};
 ghost use Rattle.tj_run.specs.Inner.Posts.{IsPostOf, IsSamePost};
@@ -50,12 +51,11 @@ pub fn worker<B: Body, P: Pool, G: Gate, R: Wait>(
         result.0.me }
     // Rested comes only where the last step of this call loaded LIVE as 0, and Stopped only where
     // it loaded STOP as why it says: the view before that step has what the seat noted in this call
-    // in front of its notes, and LIVE or STOP was so then.
-    ensures found { Found (program_of B.places B.awaits B.left B.asks B.then) result.1 seat.me.0
-        result.0.me.0 }
-    // The last step in the log of its seat is that load: of LIVE, which was 0, or of STOP, which
-    // said why.
-    ensures log { EndsLog result.1 result.0.log }
+    // in front of its notes.
+    ensures found { Found result.1 seat.me.0 result.0.me.0 }
+    // The log of its seat is longer by the steps of this call, and the last of them is that load:
+    // of LIVE, which was 0, or of STOP, which said why.
+    ensures log { EndsLog result.1 seat result.0 }
 {
     let mut post = Post {
         rt,
@@ -87,10 +87,9 @@ impl<B: Body, P: Pool, R: Wait> Post<'_, B, P, R> {
         ensures post { IsSamePost P.limit self.old self.new }
         ensures turns { TurnsTo (program_of B.places B.awaits B.left B.asks B.then) laid.now result
             self.old.seat.me.0 self.new.seat.me }
-        ensures found { IfSome result (λ how. Found
-            (program_of B.places B.awaits B.left B.asks B.then) how self.old.seat.me.0
-            self.new.seat.me.0) }
-        ensures log { IfSome result (λ how. EndsLog how self.new.seat.log) }
+        ensures found { IfSome result (λ how. Found how self.old.seat.me.0 self.new.seat.me.0) }
+        ensures log { IfSome result (λ how. EndsLog how self.old.seat self.new.seat) }
+        ensures grows { Grows self.old.seat self.new.seat }
     {
         if let Some(why) = stop_word(laid, &mut self.seat) {
             return Some(Left::Stopped(why));
@@ -98,12 +97,16 @@ impl<B: Body, P: Pool, R: Wait> Post<'_, B, P, R> {
         let Some(t) = self.pool.take(self.rt) else {
             return idle(self.rt, laid, &mut self.seat, pauses);
         };
-        *pauses = Pauses::none();
+        let stolen = self.pool.has_stolen();
         let Some(rec) = claim(laid, &mut self.seat, t) else {
             return None;
         };
-        match self.run(laid, rec) {
-            Ok(()) => None,
+        let mut parked = false;
+        match self.run(laid, rec, &mut parked) {
+            Ok(()) => {
+                pauses.after_turn(self.rt, stolen, parked);
+                None
+            }
             Err(why) => Some(Left::Stopped(stop_run(laid, &mut self.seat, why))),
         }
     }
@@ -117,9 +120,9 @@ fn stop_word<B: Body>(laid: &Laid<B>, seat: &mut WSeat<B>) -> Option<Why>
     ensures some { IfSome result (λ why. HasStopped
         (program_of B.places B.awaits B.left B.asks B.then) why seat.old.me.0 seat.new.me.0) }
     ensures stands { (n : ℕ) → IsIn n seat.old.me.0.stored → result ≢ None }
-    ensures found { IfSome result (λ why. FoundStop
-        (program_of B.places B.awaits B.left B.asks B.then) why seat.old.me.0 seat.new.me.0) }
-    ensures log { IfSome result (λ why. EndsLog (Left.Stopped why) seat.new.log) }
+    ensures found { IfSome result (λ why. FoundStop why seat.old.me.0 seat.new.me.0) }
+    ensures log { IfSome result (λ why. EndsLog (Left.Stopped why) seat.old seat.new) }
+    ensures grows { Grows seat.old seat.new }
 {
     let word = laid.stopped(seat);
     match Stop::of_word(word) {
@@ -140,9 +143,9 @@ fn idle<B: Body, R: Wait>(
     ensures table { seat.new.table_id ≡ seat.old.table_id }
     ensures turns { TurnsTo (program_of B.places B.awaits B.left B.asks B.then) laid.now result
         seat.old.me.0 seat.new.me }
-    ensures found { IfSome result (λ how. Found
-        (program_of B.places B.awaits B.left B.asks B.then) how seat.old.me.0 seat.new.me.0) }
-    ensures log { IfSome result (λ how. EndsLog how seat.new.log) }
+    ensures found { IfSome result (λ how. Found how seat.old.me.0 seat.new.me.0) }
+    ensures log { IfSome result (λ how. EndsLog how seat.old seat.new) }
+    ensures grows { Grows seat.old seat.new }
 {
     if laid.live(seat) == 0 {
         return Some(Left::Rested);
@@ -158,9 +161,8 @@ fn stop_run<B: Body>(laid: &Laid<B>, seat: &mut WSeat<B>, why: Why) -> Why
     ensures table { seat.new.table_id ≡ seat.old.table_id }
     ensures stopped { HasStopped (program_of B.places B.awaits B.left B.asks B.then) result
         seat.old.me.0 seat.new.me.0 }
-    ensures found { FoundStop (program_of B.places B.awaits B.left B.asks B.then) result
-        seat.old.me.0 seat.new.me.0 }
-    ensures log { EndsLog (Left.Stopped result) seat.new.log }
+    ensures found { FoundStop result seat.old.me.0 seat.new.me.0 }
+    ensures log { EndsLog (Left.Stopped result) seat.old seat.new }
 {
     let word = why.stop().word();
     laid.stop(seat, word);

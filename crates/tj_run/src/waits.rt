@@ -5,6 +5,7 @@ ghost use Rattle.tj_body.specs.Inner.AskSteps.{get_of, join_of};
 ghost use Rattle.tj_words.specs.SeatViews.SeatSteps.{IsCellOf, IsSameSeat, IsSeatOf};
 ghost use Rattle.tj_words.specs.SeatViews.TreeReads.{HasReadTree, KnowsTask};
 ghost use Rattle.tj_words.specs.Steps.WalkSteps.{way_by};
+ghost use Rattle.tj_cells.specs.CallLogs.{Grows};
 ghost use Rattle.tj_run.specs.Workers.{table_program};
 ghost use Rattle.tj_run.specs.Inner.Carried.{IsAsked, IsWaiting, RunsTask};
 ghost use Rattle.tj_run.specs.Inner.Going.{Goes};
@@ -33,6 +34,7 @@ impl<B: Body, P: Pool, R: Wait> Post<'_, B, P, R> {
         requires asked { IsAsked (table_program (program_of B.places B.awaits B.left B.asks B.then)
             laid.now) self.old.seat.me.0 rec.old (get_of at.spare at.place) }
         ensures stays { StaysAsked P.limit self.old self.new rec.old rec.new result }
+        ensures log { Grows self.old.seat self.new.seat }
         ensures goes { IfOk result (λ next. Goes (program_of B.places B.awaits B.left B.asks B.then)
             laid.now next rec.new self.old.seat.me.0 self.new.seat.me) }
     {
@@ -52,6 +54,7 @@ impl<B: Body, P: Pool, R: Wait> Post<'_, B, P, R> {
         requires asked { IsAsked (table_program (program_of B.places B.awaits B.left B.asks B.then)
             laid.now) self.old.seat.me.0 rec.old (join_of at.spare at.place) }
         ensures stays { StaysAsked P.limit self.old self.new rec.old rec.new result }
+        ensures log { Grows self.old.seat self.new.seat }
         ensures goes { IfOk result (λ next. Goes (program_of B.places B.awaits B.left B.asks B.then)
             laid.now next rec.new self.old.seat.me.0 self.new.seat.me) }
     {
@@ -88,6 +91,7 @@ fn way_to<B: Body, L: Ledger>(
     ensures seat { IsSameSeat seat.old seat.new }
     ensures view { HasReadTree laid.now.cells seat.old.me.0 seat.new.me.0 }
     ensures way { result ≡ way_by seat.new.me.0.born t.0 h.cell.0 }
+    ensures log { Grows seat.old seat.new }
 {
     match h.sort {
         Sort::Promise => Way::Other,
@@ -119,6 +123,7 @@ fn block_at<B: Body, L: Ledger>(
     ensures cell { IsCellOf laid.now result.0.0 }
     ensures blocked { HasBlocked (program_of B.places B.awaits B.left B.asks B.then) laid.now
         rec.new result.0.0 result.1 result.2 seat.old.me seat.new.me }
+    ensures log { Grows seat.old seat.new }
 {
     let t = rec.cell();
     let h = rec.at(place);
@@ -147,6 +152,7 @@ pub(crate) fn wait<B: Body>(
     ensures left { result ≡ None → IsLeft laid.now seat.old.me.0 seat.new.me }
     ensures back { IfSome result (λ r. ComesBack (program_of B.places B.awaits B.left B.asks B.then)
         laid.now r seat.old.me.0 seat.new.me) }
+    ensures log { Grows seat.old seat.new }
 {
     let mut rec = rec;
     let (q, way, verdict) = block_at::<B, Brand>(laid, seat, &mut rec, place, spare, Blank::new(1));

@@ -2,6 +2,7 @@
 ghost use Rattle.std.specs.Prelude.{IfOk, OnOk};
 ghost use Rattle.tj_body.specs.Programs.{program_of};
 ghost use Rattle.tj_body.specs.declared.ask.Ask.TheVariants as ask;
+ghost use Rattle.tj_cells.specs.CallLogs.{Grows};
 ghost use Rattle.tj_run.specs.Workers.{table_program};
 ghost use Rattle.tj_run.specs.Inner.Carried.{IsAsked, IsClosing, RunsTask};
 ghost use Rattle.tj_run.specs.Inner.Going.{Goes};
@@ -28,6 +29,7 @@ impl<B: Body, P: Pool, R: Wait> Post<'_, B, P, R> {
         requires asked { IsAsked (table_program (program_of B.places B.awaits B.left B.asks B.then)
             laid.now) self.old.seat.me.0 rec.old ask.New }
         ensures stays { StaysAsked P.limit self.old self.new rec.old rec.new result }
+        ensures log { Grows self.old.seat self.new.seat }
         ensures goes { IfOk result (λ next. Goes (program_of B.places B.awaits B.left B.asks B.then)
             laid.now next rec.new self.old.seat.me.0 self.new.seat.me) }
     {
@@ -52,6 +54,7 @@ impl<B: Body, P: Pool, R: Wait> Post<'_, B, P, R> {
         requires asked { IsAsked (table_program (program_of B.places B.awaits B.left B.asks B.then)
             laid.now) self.old.seat.me.0 rec.old (ask.Set place v) }
         ensures stays { StaysAsked P.limit self.old self.new rec.old rec.new result }
+        ensures log { Grows self.old.seat self.new.seat }
         ensures goes { IfOk result (λ next. Goes (program_of B.places B.awaits B.left B.asks B.then)
             laid.now next rec.new self.old.seat.me.0 self.new.seat.me) }
     {
@@ -87,6 +90,7 @@ impl<B: Body, P: Pool, R: Wait> Post<'_, B, P, R> {
         requires closing { IsClosing (table_program (program_of B.places B.awaits B.left B.asks
             B.then) laid.now) self.old.seat.me.0 rec ending }
         ensures stays { Stays P.limit self.old self.new result }
+        ensures log { Grows self.old.seat self.new.seat }
         ensures left { OnOk result (IsLeft laid.now self.old.seat.me.0 self.new.seat.me) }
     {
         let mut rec = rec;

@@ -90,6 +90,7 @@ module _ {B : Type 0} (program : Bool → B → Program B) (laid : Laid B) (r0 r
     steps = c.steps;
     plain_loads = c.plain_loads;
     once_loads = c.once_loads;
+    records = c.records;
   }
 
   pub back : ComesBack program laid r (alone r m.0) me

@@ -27,7 +27,8 @@ use Rattle.tj_log.specs.declared.entry.Entry.{Entry}
 use Rattle.tj_words.specs.declared.view.SeenWord.{SeenWord}
 use Rattle.tj_told.specs.ToldLoads.{GrowsTo}
 use Rattle.tj_told.specs.ToldLinks.{ClimbsTo, SeesName}
-use Rattle.tj_told.proofs.Looking.{Keeps, keeps_itself, keeps_on, keeps_word}
+use Rattle.tj_words.proofs.SeatLoads.KnowsMoreOn.{Keeps, keeps_itself, keeps_on}
+use Rattle.tj_told.proofs.Looking.{keeps_word}
 
 -- what the list of all cells has at an index
 cell_reference : (born : List Reference) (c : ℕ) (x : Reference) → IsCell born c x → reference_of born c ≡ x

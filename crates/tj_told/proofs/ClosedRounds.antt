@@ -1,17 +1,14 @@
 -- A round of turns that stand at the end of a run is a cycle by the closed words, and so one of the meaning and of its
 -- outcome, by names.
-use Rattle.std.proofs.Common.{◌≡◌, ◌≢◌, ℕ, zero, suc, Bool, true, List}
-use Rattle.std.proofs.Common.{[], ◌∷◌, ◌++◌, Option, Some, None, refl, sym, ap}
-use Rattle.std.proofs.Common.{◌∙◌, subst, inl, inr, arith, ◌<◌, ◌+◌, nat_eq, map, length, get_or, min, All}
-use Rattle.std.specs.Prelude.{Contains}
+use Rattle.std.proofs.Common.{◌≡◌, ◌≢◌, ℕ, zero, suc, List}
+use Rattle.std.proofs.Common.{[], ◌∷◌, Option, refl, sym, ap}
+use Rattle.std.proofs.Common.{◌∙◌, subst, inl, inr, arith, ◌<◌, nat_eq, map, length, get_or}
 use Rattle.atomic_table.specs.Table.{State}
 use Rattle.tj_base.specs.Cycles as graph
 use Rattle.tj_base.specs.ForkOrder.{Name}
 use Rattle.tj_base.proofs.Ways.{reach_one}
-use Rattle.tj_base.proofs.CycleLists.{along_cycle, along_one, at_index, cycles_return, returns_are_cycles}
-use Rattle.tj_base.proofs.CyclesOn.{cycle_list_moves}
-use Rattle.tj_base.specs.declared.cell.CellId.{CellId}
-use Rattle.tj_body.specs.Names.{same, at_most}
+use Rattle.tj_base.proofs.CycleLists.{along_cycle, at_index}
+use Rattle.tj_body.specs.Names.{same}
 use Rattle.tj_body.specs.Points.{IsIn}
 use Rattle.tj_body.specs.Programs.{Program}
 use Rattle.tj_body.specs.WaitGraph as meant
@@ -21,15 +18,14 @@ use Rattle.tj_words.specs.AtRest.ClosedCells as closed
 use Rattle.tj_words.specs.AtRest.RestMeaning.{AreWordsOf}
 use Rattle.tj_words.specs.AtRest.ShownCells.{cell_of}
 use Rattle.tj_words.specs.Law.{Law}
-use Rattle.tj_words.specs.LawParts.Contents.{Contents, contents_of, drawn_in}
-use Rattle.tj_words.specs.LawParts.TreeWords.{IsCell}
+use Rattle.tj_words.specs.LawParts.Contents.{contents_of, drawn_in}
 use Rattle.tj_words.specs.Steps.StepEvents.{IsBegun}
 use Rattle.tj_words.specs.Words.Offsets.{own_at, word}
 use Rattle.tj_words.specs.declared.closed.RestCell.{RestCell}
 use Rattle.tj_words.specs.declared.record.Rec.{Rec}
 use Rattle.tj_words.specs.declared.view.View.{View}
 use Rattle.tj_words.proofs.Lemmas.{begun_there}
-use Rattle.tj_words.proofs.Meaning.MeantCycles.{apart, named, named_is, one_led, one_meant, ps, same_cells, same_names}
+use Rattle.tj_words.proofs.Meaning.MeantCycles.{named, named_is, one_led, ps, same_cells}
 use Rattle.tj_words.proofs.Meaning.MeantCycles.{waiter_there, waits_meant}
 use Rattle.tj_words.proofs.Meaning.RestingCells.{owner_forth}
 use Rattle.tj_laws.proofs.MeantNames.{cycle_meant}

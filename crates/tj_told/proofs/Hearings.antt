@@ -3,7 +3,7 @@ use Rattle.std.proofs.Common.{◌≡◌, ◌≢◌, ◌⊎◌, ◌<◌, ℕ, Boo
 use Rattle.std.proofs.Common.{Result, Ok, Err, IfOk, IfErr}
 use Rattle.std.proofs.Common.{zero, suc, ◌≤◌, arith, length, get_or, take, refl, sym, ap, ◌∙◌, subst, inl, inr}
 use Rattle.std.proofs.lemmas.List.{take_more}
-use Rattle.std.specs.List.{list_all, list_any}
+use Rattle.std.specs.List.{list_any}
 use Rattle.tj_base.specs.declared.memory.Oom.{Oom}
 use Rattle.tj_body.proofs.Counts.{same_is, same_self}
 use Rattle.tj_body.specs.Names.{same}
@@ -11,7 +11,7 @@ use Rattle.tj_body.specs.Points.{IsIn}
 use Rattle.tj_mean.specs.declared.outcome.Link.{Link}
 use Rattle.tj_mean.proofs.Lists.Elements as elements
 use Rattle.tj_told.specs.Hearing.{HasHeard, Hears, IsStoppedBy}
-use Rattle.tj_told.specs.ToldCycles.{AddsTo, AreApart, same_cycle, same_link}
+use Rattle.tj_told.specs.ToldCycles.{AddsTo, AreApart, AreTold, same_cycle, same_link}
 use Rattle.tj_told.specs.declared.listener.Goes.{Goes}
 use Rattle.tj_told.specs.declared.listener.Goes.TheVariants as goes
 
@@ -184,58 +184,31 @@ in_take (c ∷ cs) (suc i) d l (inl e) = inl e
 in_take (c ∷ cs) (suc i) d l (inr k) =
     let m : suc (length cs) ≤ suc i = l in inr (in_take cs i d (omega (arith, m)) k)
 
--- the test tells whether all cycles are among others
-pub all_among : (told cs xs ys : List (List Link)) → xs ≡ told → ys ≡ cs
-    → true ≡ list_all (λ c. list_any (same_cycle c) ys) xs → (d : List Link) → IsIn d told → IsIn d cs
-all_among told cs xs ys e f t d i =
-    subst (λ z. IsIn d z) f (by xs (sym t) (subst (λ z. IsIn d z) (sym e) i))
+-- only the cycles, and what was told before, are told after one of them
+pub only_so_far : (early cs told now : List (List Link)) (c : List Link) → IsIn c cs → AddsTo c told now
+    → ((d : List Link) → IsIn d told → IsIn d early ⊎ IsIn d cs) → (d : List Link) → IsIn d now
+    → IsIn d early ⊎ IsIn d cs
+only_so_far early cs told now c i a only d j = by (a.only d j)
   where
-    by : (zs : List (List Link)) → list_all (λ c. list_any (same_cycle c) ys) zs ≡ true → IsIn d zs → IsIn d ys
-    by [] t j = absurd j
-    by (z ∷ zs) t (inl k) =
-        let h = both_true (list_any (same_cycle z) ys) (list_all (λ c. list_any (same_cycle c) ys) zs) t in
-        subst (λ c. IsIn c ys) (sym k) (is_in z ys h.0)
-    by (z ∷ zs) t (inr k) =
-        let h = both_true (list_any (same_cycle z) ys) (list_all (λ c. list_any (same_cycle c) ys) zs) t in
-        by zs h.1 k
-
--- only the cycles are told after one of them
-pub only_so_far : (cs told now : List (List Link)) (c : List Link) → IsIn c cs → AddsTo c told now
-    → ((d : List Link) → IsIn d told → IsIn d cs) → (d : List Link) → IsIn d now → IsIn d cs
-only_so_far cs told now c i a only d j = by (a.only d j)
-  where
-    by : (d ≡ c) ⊎ IsIn d told → IsIn d cs
-    by (inl e) = subst (λ z. IsIn z cs) (sym e) i
+    by : (d ≡ c) ⊎ IsIn d told → IsIn d early ⊎ IsIn d cs
+    by (inl e) = inr (subst (λ z. IsIn z cs) (sym e) i)
     by (inr k) = only d k
+
+-- what was told early is among the cycles, and so is what was told later
+pub all_told : (early cs told : List (List Link)) → ((d : List Link) → IsIn d early → IsIn d cs)
+    → ((d : List Link) → IsIn d told → IsIn d early ⊎ IsIn d cs) → ((d : List Link) → IsIn d cs → IsIn d told)
+    → AreTold told cs
+all_told early cs told among only all = record { only = λ d j. by d (only d j); all = all }
+  where
+    by : (d : List Link) → IsIn d early ⊎ IsIn d cs → IsIn d cs
+    by d (inl i) = among d i
+    by d (inr i) = i
 
 -- an answer On isn't Stop
 pub on_no_stop : (r : Result Goes Oom) (g : Goes) → r ≡ Ok g → g ≡ goes.On → r ≢ Ok goes.Stop
 on_no_stop r g e i f =
     let on : r ≡ Ok goes.On = e ∙ ap (λ (z : Goes). Ok z) i in
     let z : Ok goes.On ≡ Ok goes.Stop = sym on ∙ f in absurd (cc)
-
--- or there is one that isn't among them
-one_outside : (ys : List (List Link)) (z : List Link) (zs : List (List Link)) (b : Bool)
-    → list_any (same_cycle z) ys ≡ b → list_all (λ c. list_any (same_cycle c) ys) (z ∷ zs) ≡ false
-    → (list_all (λ c. list_any (same_cycle c) ys) zs ≡ false → (c : List Link) × IsIn c zs × ¬ IsIn c ys)
-    → (c : List Link) × IsIn c (z ∷ zs) × ¬ IsIn c ys
-one_outside ys z zs true g t more =
-    let h = more (sym (ap (λ b. b && list_all (λ c. list_any (same_cycle c) ys) zs) g) ∙ t) in (h.0, inr h.1, h.2)
-one_outside ys z zs false g t more = (z, inl refl, not_in z ys g)
-
-some_outside : (ys zs : List (List Link)) → list_all (λ c. list_any (same_cycle c) ys) zs ≡ false
-    → (c : List Link) × IsIn c zs × ¬ IsIn c ys
-some_outside ys [] t = absurd (cc)
-some_outside ys (z ∷ zs) t =
-    one_outside ys z zs (list_any (same_cycle z) ys) refl t (λ u. some_outside ys zs u)
-
-pub not_among : (told cs xs ys : List (List Link)) → xs ≡ told → ys ≡ cs
-    → false ≡ list_all (λ c. list_any (same_cycle c) ys) xs → (c : List Link) × IsIn c told × ¬ IsIn c cs
-not_among told cs xs ys e f t = let h = some_outside ys xs (sym t) in (
-  h.0,
-  subst (λ z. IsIn h.0 z) e h.1,
-  λ i. h.2 (subst (λ z. IsIn h.0 z) (sym f) i),
-)
 
 -- whatever comes of the call, only that one is new
 pub only_added : (link : List Link) (before now : List (List Link)) (r : Result Goes Oom)

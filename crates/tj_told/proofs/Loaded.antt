@@ -1,6 +1,6 @@
 -- The loads of a round that a log has show a cycle of waits that stands at the end of the run.
-use Rattle.std.proofs.Common.{◌≡◌, ◌≢◌, ℕ, zero, suc, Bool, List, [], ◌∷◌, ◌++◌, Option, Some, None, refl, sym, ap, ◌∙◌}
-use Rattle.std.proofs.Common.{subst, inl, inr, ⊎_elim, ◌⊎◌, arith, ◌<◌, ◌+◌, ◌*◌, ◌%◌, ◌/◌, nat_eq, map}
+use Rattle.std.proofs.Common.{◌≡◌, ℕ, zero, suc, Bool, List, [], ◌∷◌, Option, Some, refl, sym, ap, ◌∙◌}
+use Rattle.std.proofs.Common.{subst, inl, inr, ◌⊎◌, arith, ◌<◌, ◌+◌, ◌*◌, ◌%◌, ◌/◌}
 use Rattle.std.specs.Prelude.{Contains}
 use Rattle.tj_base.specs.Cycles as graph
 use Rattle.tj_base.specs.declared.cell.CellId.{CellId}
@@ -11,13 +11,9 @@ use Rattle.tj_log.specs.declared.entry.Entry.{Entry}
 use Rattle.tj_words.specs.CallLaws.CallRuns.{AreAskedMoments, IsAskedStep}
 use Rattle.tj_words.specs.CallLaws.LoggedRuns.{AreStepsOf, IsEntry, in_order}
 use Rattle.tj_words.specs.CallLaws.RestedRuns.{Ruled, last_moment}
-use Rattle.tj_words.specs.CallLaws.StepCalls as call
-use Rattle.tj_words.specs.CallLaws.StepLogs.{entry_of}
 use Rattle.tj_words.specs.LawParts.Contents.{Contents, contents_of}
-use Rattle.tj_words.specs.Words.Offsets.{own_at, phase_at, word}
 use Rattle.tj_words.specs.Words.Owners.{owner_in}
 use Rattle.tj_words.specs.Words.Phases.{phase_in, phase_word, phase_by}
-use Rattle.tj_words.specs.declared.phase.Phase.{Phase}
 use Rattle.tj_words.specs.declared.phase.Phase.TheVariants as phase
 use Rattle.tj_words.specs.declared.phase.Walk.{Walk}
 use Rattle.tj_words.specs.declared.phase.Walk.TheVariants as walk
@@ -29,7 +25,7 @@ use Rattle.tj_body.specs.Points.{IsIn}
 use Rattle.atomic_table.specs.Table.{State}
 use Rattle.tj_words.specs.declared.table.Key.{Key}
 use Rattle.tj_laws.specs.Moments.{contents_at}
-use Rattle.tj_laws.specs.TableWaits.{CyclesStay, EveryMoment, HasAlarmed, IsCycle, Leads, Waits}
+use Rattle.tj_laws.specs.TableWaits.{CyclesStay, EveryMoment, IsCycle, Leads, Waits}
 use Rattle.tj_told.specs.ToldLoads.{ArePartOf, ComesBack, HasRound, Turn, loads_of, owner_load, phase_load}
 
 -- what is a part of the steps of a seat is so too

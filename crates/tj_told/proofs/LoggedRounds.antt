@@ -1,6 +1,6 @@
 -- What the log of an observer has of a round, turn by turn.
 use Rattle.std.proofs.Common.{◌≡◌, ◌≢◌, ℕ, List, [], ◌∷◌, ◌++◌, ◌⊎◌, Option}
-use Rattle.std.proofs.Common.{Some, Result, Ok, Err, IfOk, IfSome, refl, sym, ap}
+use Rattle.std.proofs.Common.{Some, refl, sym, ap}
 use Rattle.std.proofs.Common.{◌∙◌, subst, inl, inr, append_assoc}
 use Rattle.tj_base.specs.ForkOrder.{Name}
 use Rattle.tj_base.specs.declared.cell.CellId.{CellId}
@@ -19,7 +19,7 @@ use Rattle.tj_words.specs.declared.phase.Phase.TheVariants as phase
 use Rattle.tj_words.specs.declared.phase.Walk.{Walk}
 use Rattle.tj_words.specs.declared.phase.Walk.TheVariants as walk
 use Rattle.tj_words.specs.declared.view.SeenWord.{SeenWord}
-use Rattle.tj_told.specs.ToldLoads.{ArePartOf, ComesBack, GrowsTo, HasRound, HasSeenAlarm, IsWayOn, Turn, loads_of}
+use Rattle.tj_told.specs.ToldLoads.{ArePartOf, ComesBack, GrowsTo, HasSeenAlarm, IsWayOn, Turn, loads_of}
 use Rattle.tj_told.specs.ToldLoads.{owner_load, phase_load}
 use Rattle.tj_told.specs.ToldLinks.{AreLinksOf, AreSeen, AreSeenBy, FindsTurn, IsFromLeast, IsSeenRound, SeesName}
 use Rattle.tj_told.proofs.Climbing.{name_where}

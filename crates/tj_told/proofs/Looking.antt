@@ -2,14 +2,13 @@
 use Rattle.std.proofs.Common.{◌≡◌, ◌≢◌, ℕ, zero, suc, List, [], ◌∷◌, Option, Some, None, refl, sym, ap, subst, inl, inr}
 use Rattle.tj_base.specs.declared.cell.CellId.{CellId}
 use Rattle.tj_body.specs.Points.{IsIn}
-use Rattle.tj_body.proofs.Lists.{begins_self, in_left}
+use Rattle.tj_body.proofs.Lists.{in_left, in_right}
 use Rattle.tj_events.specs.declared.walk.Way.{Way}
-use Rattle.tj_words.specs.Calls.MetCells.{SeesOwner, SeesPhase, Meets}
+use Rattle.tj_words.specs.Calls.MetCells.{Meets, SeesOwner, SeesPhase, met}
 use Rattle.tj_words.specs.Calls.ParkSteps.{loaded_phase, rest_loaded}
 use Rattle.tj_words.specs.Calls.WalkViews.{ReadsCount}
-use Rattle.tj_words.specs.SeatViews.KnowsMore.{KnowsMore}
 use Rattle.tj_words.specs.SeatViews.SeenWords.{FindsWord}
-use Rattle.tj_words.specs.SeatViews.Views.{IsIdle, loaded_plain, note_of, saw_live, saw_rest, saw_stop, stored_stop}
+use Rattle.tj_words.specs.SeatViews.Views.{loaded_plain, note_of, saw_live, saw_rest, saw_stop, saw_word, stored_stop}
 use Rattle.tj_words.specs.Steps.StepEvents.{IsBegun}
 use Rattle.tj_words.specs.Words.Phases.{phase_word}
 use Rattle.tj_words.specs.declared.offsets.Once.{Once}
@@ -18,71 +17,24 @@ use Rattle.tj_words.specs.declared.phase.Phase.TheVariants as phase
 use Rattle.tj_words.specs.declared.phase.Walk.{Walk}
 use Rattle.tj_words.specs.declared.view.Noted.TheVariants as note
 use Rattle.tj_words.specs.declared.view.View.{View}
-use Rattle.tj_words.proofs.SeatLoads.KnowsMoreOn.{more_itself, more_on}
+use Rattle.tj_words.proofs.SeatLoads.KnowsMoreOn.{Keeps, keeps_load, keeps_noted, keeps_on}
 use Rattle.tj_told.specs.Observers.{KnowsCell}
 
 module _ {B : Type 0} where
-  -- a seat that may be merged still may, and knows what it knew
-  pub record Keeps (v w : View B) : Type 0 where
-    pub idle : IsIdle v → IsIdle w
-    pub more : KnowsMore v w
-
-  pub keeps_itself : (v : View B) → Keeps v v
-  keeps_itself v = record { idle = λ i. i; more = more_itself v }
-
-  pub keeps_on : (u v w : View B) → Keeps u v → Keeps v w → Keeps u w
-  keeps_on u v w p q = record { idle = λ i. q.idle (p.idle i); more = more_on u v w p.more q.more }
+  -- more is known of cells
+  keeps_met : (cells : ℕ) (there : List ℕ) (t : ℕ) (v w : View B) → Meets cells there t v w → Keeps v w
+  keeps_met cells there t v w m = subst (Keeps v) (sym m.view) (keeps_load v (met there m.born v) m.begins
+      (λ x i. in_right x there v.known i) (λ x i. i) (λ x i. i) (λ e. e) (λ e. e) ([], refl))
 
   -- a load of OWN that is no event
+  loaded_owner : (c n : ℕ) (v : View B) → Keeps v (loaded_plain (note.Owner c) n v)
+  loaded_owner c n v = keeps_noted v (loaded_plain (note.Owner c) n v) (λ e. e) (λ e. e)
+      (note_of (note.Owner c) n v ∷ [], refl)
+
   pub keeps_owner : (cells c : ℕ) (o : Option ℕ) (v w : View B) → SeesOwner cells c o v w → Keeps v w
-  keeps_owner cells c None v w e = subst (Keeps v) (sym e) (record {
-    idle = λ i. record {
-      tasks = i.tasks;
-      tokens = i.tokens;
-      hand = i.hand;
-      dues = i.dues;
-      cleared = i.cleared;
-      pushes = i.pushes;
-      shuts = i.shuts;
-      rest = i.rest;
-    };
-    more = record {
-      about = refl;
-      lot = refl;
-      born = begins_self v.born;
-      known = λ x i. i;
-      wrote = λ x i. i;
-      filled = λ x i. i;
-      seen = λ x i. i;
-      closed = λ x i. i;
-      rested = λ e. e;
-      notes = (note_of (note.Owner c) 0 v ∷ [], refl);
-    };
-  })
-  keeps_owner cells c (Some u) v w m = subst (Keeps v) (sym m.view) (record {
-    idle = λ i. record {
-      tasks = i.tasks;
-      tokens = i.tokens;
-      hand = i.hand;
-      dues = i.dues;
-      cleared = i.cleared;
-      pushes = i.pushes;
-      shuts = i.shuts;
-      rest = i.rest;
-    };
-    more = record {
-      about = refl;
-      lot = refl;
-      born = m.begins;
-      known = λ x i. inr (inr i);
-      wrote = λ x i. i;
-      filled = λ x i. i;
-      seen = λ x i. i;
-      closed = λ x i. i;
-      rested = λ e. e;
-      notes = (note_of (note.Owner c) (suc u) v ∷ [], refl);
-    };
-  })
+  keeps_owner cells c None v w e = subst (Keeps v) (sym e) (loaded_owner c 0 v)
+  keeps_owner cells c (Some u) v w m = let x = loaded_plain (note.Owner c) (suc u) v in
+      keeps_on v x w (loaded_owner c (suc u) v) (keeps_met cells (c ∷ u ∷ []) u x w m)
 
   -- what is known after more was learned of cells is known
   known_met : (cells : ℕ) (there : List ℕ) (t : ℕ) (v w : View B) → Meets cells there t v w → (c : ℕ) → IsIn c there
@@ -99,57 +51,14 @@ module _ {B : Type 0} where
   pub keeps_phase : (cells t : ℕ) (p : Phase) (v w : View B) → v.rest ≡ None → SeesPhase cells t p v w → Keeps v w
   keeps_phase cells t p v w none s = by p refl
     where
-      loaded : Keeps v (loaded_phase t p v)
-      loaded = record {
-        idle = λ i. record {
-          tasks = i.tasks;
-          tokens = i.tokens;
-          hand = i.hand;
-          dues = i.dues;
-          cleared = i.cleared;
-          pushes = i.pushes;
-          shuts = i.shuts;
-          rest = ap (rest_loaded t p) i.rest;
-        };
-        more = record {
-          about = refl;
-          lot = refl;
-          born = begins_self v.born;
-          known = λ x i. i;
-          wrote = λ x i. i;
-          filled = λ x i. i;
-          seen = λ x i. i;
-          closed = λ x i. i;
-          rested = λ e. e;
-          notes = (note_of (note.Phase t) (phase_word p) v ∷ [], refl);
-        };
-      }
+      x : View B
+      x = loaded_phase t p v
+
+      loaded : Keeps v x
+      loaded = keeps_noted v x (λ e. e) (λ e. ap (rest_loaded t p) e) (note_of (note.Phase t) (phase_word p) v ∷ [], refl)
 
       begun : IsBegun p → Keeps v w
-      begun b = let m = s.0 none b in subst (Keeps v) (sym m.view) (record {
-        idle = λ i. let k = loaded.idle i in record {
-          tasks = k.tasks;
-          tokens = k.tokens;
-          hand = k.hand;
-          dues = k.dues;
-          cleared = k.cleared;
-          pushes = k.pushes;
-          shuts = k.shuts;
-          rest = k.rest;
-        };
-        more = record {
-          about = refl;
-          lot = refl;
-          born = m.begins;
-          known = λ x i. inr i;
-          wrote = λ x i. i;
-          filled = λ x i. i;
-          seen = λ x i. i;
-          closed = λ x i. i;
-          rested = λ e. e;
-          notes = (note_of (note.Phase t) (phase_word p) v ∷ [], refl);
-        };
-      })
+      begun b = keeps_on v x w loaded (keeps_met cells (t ∷ []) t x w (s.0 none b))
 
       unbegun : ¬ IsBegun p → Keeps v w
       unbegun n = subst (Keeps v) (sym (s.1 (inr n))) loaded
@@ -170,156 +79,24 @@ module _ {B : Type 0} where
 
   -- a load of a word of the tree
   pub keeps_word : (cells : ℕ) (f : Once) (c n : ℕ) (v w : View B) → FindsWord cells f c n v w → Keeps v w
-  keeps_word cells f c n v w m = subst (Keeps v) (sym m.view) (record {
-    idle = λ i. record {
-      tasks = i.tasks;
-      tokens = i.tokens;
-      hand = i.hand;
-      dues = i.dues;
-      cleared = i.cleared;
-      pushes = i.pushes;
-      shuts = i.shuts;
-      rest = i.rest;
-    };
-    more = record {
-      about = refl;
-      lot = refl;
-      born = m.begins;
-      known = λ x i. i;
-      wrote = λ x i. i;
-      filled = λ x i. i;
-      seen = λ x i. inr i;
-      closed = λ x i. i;
-      rested = λ e. e;
-      notes = ([], refl);
-    };
-  })
+  keeps_word cells f c n v w m = subst (Keeps v) (sym m.view) (keeps_load v (saw_word c f n m.born v) m.begins
+      (λ x i. i) (λ x i. i) (λ x i. inr i) (λ e. e) (λ e. e) ([], refl))
 
   -- loads of COUNT, STOP and LIVE
   pub keeps_count : (cells found : ℕ) (v w : View B) → ReadsCount None cells found v w → Keeps v w
-  keeps_count cells found v w m = subst (Keeps v) (sym m.2) (record {
-    idle = λ i. record {
-      tasks = i.tasks;
-      tokens = i.tokens;
-      hand = i.hand;
-      dues = i.dues;
-      cleared = i.cleared;
-      pushes = i.pushes;
-      shuts = i.shuts;
-      rest = i.rest;
-    };
-    more = record {
-      about = refl;
-      lot = refl;
-      born = begins_self v.born;
-      known = λ x i. i;
-      wrote = λ x i. i;
-      filled = λ x i. i;
-      seen = λ x i. i;
-      closed = λ x i. i;
-      rested = λ e. e;
-      notes = (note_of note.Count m.0 v ∷ [], refl);
-    };
-  })
+  keeps_count cells found v w m = subst (Keeps v) (sym m.2)
+      (keeps_noted v (loaded_plain note.Count m.0 v) (λ e. e) (λ e. e) (note_of note.Count m.0 v ∷ [], refl))
 
   pub keeps_stop : (n : ℕ) (v w : View B) → w ≡ saw_stop n v → Keeps v w
-  keeps_stop n v w e = subst (Keeps v) (sym e) (record {
-    idle = λ i. record {
-      tasks = i.tasks;
-      tokens = i.tokens;
-      hand = i.hand;
-      dues = i.dues;
-      cleared = i.cleared;
-      pushes = i.pushes;
-      shuts = i.shuts;
-      rest = i.rest;
-    };
-    more = record {
-      about = refl;
-      lot = refl;
-      born = begins_self v.born;
-      known = λ x i. i;
-      wrote = λ x i. i;
-      filled = λ x i. i;
-      seen = λ x i. i;
-      closed = λ x i. i;
-      rested = λ e. e;
-      notes = (note_of note.Stop n v ∷ [], refl);
-    };
-  })
+  keeps_stop n v w e = subst (Keeps v) (sym e)
+      (keeps_noted v (saw_stop n v) (λ e. e) (λ e. e) (note_of note.Stop n v ∷ [], refl))
 
   pub keeps_stored : (n : ℕ) (v w : View B) → w ≡ stored_stop n v → Keeps v w
-  keeps_stored n v w e = subst (Keeps v) (sym e) (record {
-    idle = λ i. record {
-      tasks = i.tasks;
-      tokens = i.tokens;
-      hand = i.hand;
-      dues = i.dues;
-      cleared = i.cleared;
-      pushes = i.pushes;
-      shuts = i.shuts;
-      rest = i.rest;
-    };
-    more = record {
-      about = refl;
-      lot = refl;
-      born = begins_self v.born;
-      known = λ x i. i;
-      wrote = λ x i. i;
-      filled = λ x i. i;
-      seen = λ x i. i;
-      closed = λ x i. i;
-      rested = λ e. e;
-      notes = (note_of note.StoredStop n v ∷ [], refl);
-    };
-  })
+  keeps_stored n v w e = subst (Keeps v) (sym e)
+      (keeps_noted v (stored_stop n v) (λ e. e) (λ e. e) (note_of note.StoredStop n v ∷ [], refl))
 
   pub keeps_live : (n : ℕ) (v w : View B) → (n ≡ 0 → w ≡ saw_rest v) → (n ≢ 0 → w ≡ saw_live n v) → Keeps v w
-  keeps_live zero v w rested live = subst (Keeps v) (sym (rested refl)) (record {
-    idle = λ i. record {
-      tasks = i.tasks;
-      tokens = i.tokens;
-      hand = i.hand;
-      dues = i.dues;
-      cleared = i.cleared;
-      pushes = i.pushes;
-      shuts = i.shuts;
-      rest = i.rest;
-    };
-    more = record {
-      about = refl;
-      lot = refl;
-      born = begins_self v.born;
-      known = λ x i. i;
-      wrote = λ x i. i;
-      filled = λ x i. i;
-      seen = λ x i. i;
-      closed = λ x i. i;
-      rested = λ e. refl;
-      notes = (note_of note.Live 0 v ∷ [], refl);
-    };
-  })
-  keeps_live (suc n) v w rested live = subst (Keeps v) (sym (live (λ e. absurd (cc)))) (record {
-    idle = λ i. record {
-      tasks = i.tasks;
-      tokens = i.tokens;
-      hand = i.hand;
-      dues = i.dues;
-      cleared = i.cleared;
-      pushes = i.pushes;
-      shuts = i.shuts;
-      rest = i.rest;
-    };
-    more = record {
-      about = refl;
-      lot = refl;
-      born = begins_self v.born;
-      known = λ x i. i;
-      wrote = λ x i. i;
-      filled = λ x i. i;
-      seen = λ x i. i;
-      closed = λ x i. i;
-      rested = λ e. e;
-      notes = (note_of note.Live (suc n) v ∷ [], refl);
-    };
-  })
+  keeps_live zero v w rested live = subst (Keeps v) (sym (rested refl))
+      (keeps_noted v (saw_rest v) (λ e. refl) (λ e. e) (note_of note.Live 0 v ∷ [], refl))
+  keeps_live (suc n) v w rested live = subst (Keeps v) (sym (live (λ e. absurd (cc))))
+      (keeps_noted v (saw_live (suc n) v) (λ e. e) (λ e. e) (note_of note.Live (suc n) v ∷ [], refl))

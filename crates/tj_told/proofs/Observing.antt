@@ -1,6 +1,5 @@
 -- What an observer's seat knows after loads of PHASE and OWN.
 use Rattle.std.proofs.Common.{◌≡◌, ◌≢◌, ℕ, Option, Some, None, IfSome, ap, subst}
-use Rattle.tj_base.specs.ForkOrder.{Name}
 use Rattle.tj_base.specs.declared.cell.CellId.{CellId}
 use Rattle.tj_events.specs.declared.walk.Way.{Way}
 use Rattle.tj_log.specs.Shown.{SeatShown}
@@ -17,7 +16,7 @@ use Rattle.tj_words.specs.declared.record.Rec.{Rec}
 use Rattle.tj_words.specs.declared.table.Laid.{Laid}
 use Rattle.tj_words.specs.declared.view.View.{View}
 use Rattle.tj_told.specs.ToldLoads.{GrowsTo}
-use Rattle.tj_told.specs.Observers.{KnowsCell, KnowsName, LooksOn, Observes}
+use Rattle.tj_told.specs.Observers.{KnowsCell, LooksOn, Observes}
 use Rattle.tj_told.proofs.Climbing.{cell_on, looks_itself, looks_then}
 use Rattle.tj_told.proofs.Looking.{keeps_count, keeps_live, keeps_owner, keeps_phase, keeps_stop, keeps_stored}
 use Rattle.tj_told.proofs.Looking.{owned_known}
@@ -27,9 +26,6 @@ module _ {B : Type 0} where
   -- what is known stays known
   pub known_on : (c : ℕ) (v w : View B) → KnowsMore v w → KnowsCell c v → KnowsCell c w
   known_on c v w k h = (k.known c h.0, (h.1.0, cell_on v.born w.born c h.1.0 k.born h.1.1))
-
-  pub name_on : (c : ℕ) (q : Name) (v w : View B) → KnowsMore v w → KnowsName c q v → KnowsName c q w
-  name_on c q v w k h = (h.0, cell_on v.born w.born c h.0 k.born h.1, h.2)
 
   pub after_phase : (laid : Laid B) (cells t : ℕ) (p : Phase) (a b : SeatShown (Option (Rec B)) (View B))
       → Observes laid a → IsSameSeat a b → SeesPhase cells t p a.me.0 b.me.0 → GrowsTo a.log b.log → LooksOn a b

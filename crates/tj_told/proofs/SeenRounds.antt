@@ -1,20 +1,18 @@
 -- A round that was seen is one of the outcome's cycles.
-use Rattle.std.proofs.Common.{◌≡◌, ◌≢◌, ◌-◌, ◌<◌, ℕ, zero, suc, Bool, true}
-use Rattle.std.proofs.Common.{List, [], ◌∷◌, ◌++◌, Option, refl, sym, ap, ◌∙◌}
-use Rattle.std.proofs.Common.{subst, inl, inr, arith, map, length, min, reverse}
-use Rattle.std.proofs.Math.Option.{some-injective, some-ne-none}
+use Rattle.std.proofs.Common.{◌≡◌, ◌-◌, ◌<◌, ℕ, zero, suc, Bool}
+use Rattle.std.proofs.Common.{List, [], ◌∷◌, Option, refl, sym, ap, ◌∙◌}
+use Rattle.std.proofs.Common.{subst, arith, length, min, reverse}
+use Rattle.std.proofs.Math.Option.{some-injective}
 use Rattle.std.proofs.lemmas.List.{reverse-append}
-use mathlib.Core.Option.{some}
 use lib.ListN.{get_elem?}
 use Rattle.atomic_table.specs.Table.{State}
-use Rattle.tj_base.specs.ForkOrder.{Name, child}
+use Rattle.tj_base.specs.ForkOrder.{child}
 use Rattle.tj_body.specs.History.{to_task}
 use Rattle.tj_body.specs.Points.{IsIn}
 use Rattle.tj_body.specs.Programs.{Program}
 use Rattle.tj_body.specs.Rounds.{meaning}
 use Rattle.tj_body.specs.declared.point.Reference.{Reference}
 use Rattle.tj_log.specs.Shown.{SeatShown}
-use Rattle.tj_log.specs.Runs.{took_of}
 use Rattle.tj_log.specs.declared.entry.Entry.{Entry}
 use Rattle.tj_mean.specs.Outcomes.{IsOutcome}
 use Rattle.tj_mean.specs.declared.outcome.Link.{Link}
@@ -26,7 +24,6 @@ use Rattle.tj_words.specs.AtRest.ShownCells.{cell_of, maker_in}
 use Rattle.tj_words.specs.CallLaws.RestedRuns.{Ruled, last_moment}
 use Rattle.tj_words.specs.Law.{Law}
 use Rattle.tj_words.specs.LawParts.Contents.{contents_of, drawn_in}
-use Rattle.tj_words.specs.LawParts.OnceWords.{Stands}
 use Rattle.tj_words.specs.LawParts.TreeWords.{IsCell}
 use Rattle.tj_words.specs.SeatViews.SeenWords.{seen_word}
 use Rattle.tj_words.specs.Words.Offsets.{once_at, word}
@@ -34,7 +31,6 @@ use Rattle.tj_words.specs.declared.closed.RestCell.{RestCell}
 use Rattle.tj_words.specs.declared.offsets.Once.{Once}
 use Rattle.tj_words.specs.declared.offsets.Once.TheVariants as once
 use Rattle.tj_words.specs.declared.record.Rec.{Rec}
-use Rattle.tj_words.specs.declared.table.Key.{Key}
 use Rattle.tj_words.specs.declared.view.SeenWord.{SeenWord}
 use Rattle.tj_words.specs.declared.view.View.{View}
 use Rattle.tj_words.proofs.Lemmas.{at_index}
@@ -45,7 +41,7 @@ use Rattle.tj_told.proofs.ClosedRounds.{round_meant, turns_closed}
 use Rattle.tj_told.proofs.Loaded.{round_stands}
 use Rattle.tj_told.proofs.ToldRounds.{cycle_told}
 use Rattle.tj_told.specs.ToldLoads.{Turn}
-use Rattle.tj_told.specs.ToldLinks.{AreLinksOf, AreSeen, ClimbsTo, IsNamed, IsSeenRound, SeesName}
+use Rattle.tj_told.specs.ToldLinks.{AreLinksOf, ClimbsTo, IsNamed, IsSeenRound, SeesName}
 
 -- the maker that a word PARENT names
 maker_number : (p : ℕ) → (maker_in p).0 ≡ p - 1

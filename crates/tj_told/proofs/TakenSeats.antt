@@ -1,11 +1,10 @@
 -- How the workers leave once their seat has taken in that of the observer, and that an observer may go to another
 -- thread.
-use Rattle.std.proofs.Common.{◌≡◌, ℕ, ◌+◌, ◌-◌, ◌*◌, ◌≤◌, ◌||◌, Bool, [], ◌∷◌, Option, refl, sym, ap, ◌∙◌, subst, arith}
-use denote.Param.Send.{IsSend, recorded_send, struct_send}
-use denote.RattleType.{RattleType}
-use denote.Struct.Declared.{row, shape}
-use denote.Struct.Tuple.{type_at}
-use mir.Syntax.{Sym}
+use Rattle.std.proofs.Common.{◌≡◌, ℕ, ◌+◌, ◌-◌, ◌*◌, ◌≤◌, ◌||◌, Bool, [], Option, refl, sym, ap, ◌∙◌, subst, arith}
+use denote.Param.Send.{IsSend, IsSync, sendable}
+use Rattle.std.proofs.Crossing.{crosses}
+use Rattle.std.specs.contracts.thread.Parker as parker
+use Rattle.tj_told.specs.contracts.looks.Looks as looks
 use Rattle.tj_log.specs.Shown.{SeatShown}
 use Rattle.tj_body.specs.Programs.{Program}
 use Rattle.tj_words.specs.declared.record.Rec.{Rec}
@@ -53,9 +52,9 @@ module _ {B : Type 0} (program : Bool → B → Program B) (v : View B) (room : 
       (subst (λ z. Leaves program z (left_half v) worked.me) x.1
       (subst (λ z. Leaves program was z worked.me) m l)))
 
--- a tuple of six may go to another thread, where its parts may
-pub six_send : (name : Sym) (a b c d e f : RattleType) → IsSend a → IsSend b → IsSend c → IsSend d → IsSend e → IsSend f
-    → IsSend (row (type_at name (a ∷ b ∷ c ∷ d ∷ e ∷ f ∷ [])))
-six_send name a b c d e f sa sb sc sd se sf =
-    let t = type_at name (a ∷ b ∷ c ∷ d ∷ e ∷ f ∷ []) in
-    recorded_send _ _ _ t.to_one (struct_send (shape t) (sa, (sb, (sc, (sd, (se, (sf, tt)))))))
+-- a bell may be shared, and an observer may be told how often it looks
+pub bell_sync : IsSync parker.the_row
+bell_sync = search (sendable, crosses) depth 20
+
+pub looks_send : IsSend looks.the_row
+looks_send = search (sendable, crosses) depth 20

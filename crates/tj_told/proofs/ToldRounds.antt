@@ -1,7 +1,7 @@
 -- A cycle of the meaning's waits, by the links of its tasks, is one of the outcome's cycles from its least name on.
-use Rattle.std.proofs.Common.{◌≡◌, ℕ, suc, zero, Bool, List, [], ◌∷◌, ◌++◌}
+use Rattle.std.proofs.Common.{◌≡◌, suc, Bool, List, [], ◌∷◌, ◌++◌}
 use Rattle.std.proofs.Common.{refl, sym, ap, ◌∙◌, subst, inl, inr, ◌⊎◌, arith}
-use Rattle.std.proofs.Common.{◌+◌, ◌<◌, map, length, get_or}
+use Rattle.std.proofs.Common.{◌+◌, map, length}
 use Rattle.std.specs.Bool.{Decides}
 use Rattle.std.specs.Prelude.{Contains}
 use Rattle.tj_base.specs.Cycles as graph

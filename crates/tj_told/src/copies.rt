@@ -1,15 +1,15 @@
 //! Copies of cycles, and the tests whether two are equal, and whether one is among some.
-ghost use Rattle.std.specs.Prelude.{◌≡◌, ◌↔◌, true, IfOk};
+ghost use Rattle.std.specs.Prelude.{◌≡◌, IfOk};
 ghost use Rattle.std.specs.List.{list_any};
-ghost use Rattle.tj_body.specs.Points.{IsIn};
-ghost use Rattle.tj_told.specs.ToldCycles.{same_cycle, same_link};
+ghost use Rattle.tj_told.specs.ToldCycles.{same_cycle};
 
 use std::alloc::Global;
 use tj_base::{Items, Oom};
 use tj_mean::{Link, LinkList};
 
-/// An equal cycle.
-pub(crate) fn copy_of(alloc: Global, links: &LinkList) -> Result<LinkList, Oom>
+/// A copy of a cycle.
+pub fn copy_of(alloc: Global, links: &LinkList) -> Result<LinkList, Oom>
+    // It is an equal cycle.
     ensures { IfOk result (λ copy. copy ≡ links.now) }
 {
     let mut copy = Vec::new(alloc);

@@ -6,13 +6,18 @@ mod copies;
 mod fault;
 mod links;
 mod listener;
+mod looks;
 mod names;
 mod observer;
 mod run;
+mod script;
 mod settling;
 mod telling;
 
+pub use copies::copy_of;
 pub use fault::ToldFault;
 pub use listener::{Goes, Listener};
+pub use looks::Looks;
 pub use names::name_at;
 pub use run::run_told;
+pub use script::run_script_told;

@@ -1,5 +1,5 @@
 //! The cycle of waits that a task is on, by loads of PHASE and OWN in turn.
-ghost use Rattle.std.specs.Prelude.{◌≡◌, ◌<◌, ◌≤◌, IfOk, IfSome};
+ghost use Rattle.std.specs.Prelude.{◌<◌, IfOk, IfSome};
 ghost use Rattle.tj_words.specs.SeatViews.SeatSteps.{IsCellOf};
 ghost use Rattle.tj_told.specs.Observers.{LooksOn, Observes};
 ghost use Rattle.tj_told.specs.ToldLinks.{FindsTurn, IsFromLeast, IsSeenRound};

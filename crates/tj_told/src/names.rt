@@ -1,6 +1,5 @@
 //! The name of a cell while the tasks run, by its makers up to the root.
 ghost use Rattle.std.specs.Prelude.{◌≡◌, ◌<◌, IfOk};
-ghost use Rattle.tj_body.specs.Programs.{program_of};
 ghost use Rattle.tj_words.specs.SeatViews.SeatSteps.{IsCellOf};
 ghost use Rattle.tj_told.specs.Observers.{KnowsCell, KnowsName, LooksOn, Observes};
 ghost use Rattle.tj_told.specs.ToldLinks.{SeesName};

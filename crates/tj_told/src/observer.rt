@@ -12,6 +12,7 @@ ghost use Rattle.tj_words.specs.declared.phase.Walk.TheVariants as walk;
 
 use crate::links::cycle_of;
 use crate::listener::{Goes, Listener};
+use crate::looks::Looks;
 use crate::telling::Telling;
 use std::alloc::Global;
 use std::sync::Wait;
@@ -35,13 +36,15 @@ pub(crate) enum Sight {
 }
 
 /// Looks until the run is at its end. Where the listener stops it, or memory is lacking, it stores 2 in
-/// STOP. Between two looks it sleeps for so many milliseconds.
+/// STOP. Between two looks it sleeps, until the bell rings at the latest. Where nobody is to look, it
+/// does nothing.
 pub(crate) fn observe<B: Body, T: Listener, R: Wait>(
     rt: &R,
     alloc: Global,
     laid: &Laid<B>,
     seat: WSeat<B>,
-    every: u32,
+    looks: Looks,
+    bell: &Parker,
     telling: Telling<T>,
 ) -> (WSeat<B>, Telling<T>, Sight)
     requires seat { Observes laid.now seat }
@@ -54,15 +57,15 @@ pub(crate) fn observe<B: Body, T: Listener, R: Wait>(
     ensures stops { (s : T) → Hears T.tells telling.cycles s telling.listener
         → result.2 ≡ Sight.Stops → IsStoppedBy T.tells result.1.cycles s result.1.listener }
 {
+    let Looks::Every(every) = looks else {
+        return (seat, telling, Sight::Ended);
+    };
     let mut seat = seat;
     let mut telling = telling;
     for _i in rt.forever() {
         let sight = look(alloc, laid, &mut seat, &mut telling);
         match sight {
-            Sight::GoesOn => Parker::new().park_timeout(
-                rt,
-                Duration::from_millis(u64::from(every)),
-            ),
+            Sight::GoesOn => bell.park_timeout(rt, Duration::from_millis(u64::from(every))),
             Sight::Ended => return (seat, telling, sight),
             Sight::Stops | Sight::Wants => {
                 laid.stop(&mut seat, 2);

@@ -1,14 +1,12 @@
 //! A run whose deadlocks are told as they happen.
-ghost use Rattle.std.specs.Prelude.{◌≡◌, ◌≢◌, ◌<◌, ◌≤◌, ◌*◌, ◌++◌, ◌∷◌, List, [], All, IfErr, IfOk, Err, length};
+ghost use Rattle.std.specs.Prelude.{◌≡◌, ◌≢◌, ◌<◌, ◌≤◌, ◌*◌, ◌++◌, ◌∷◌, List, [], All, IfOk, Err, length};
 ghost use Rattle.std.specs.Thread.{IsSync};
 ghost use denote.Param.Send.{IsSend};
-ghost use Rattle.tj_base.specs.declared.cell.TheConstants.{MAX_CELLS};
 ghost use Rattle.tj_body.specs.Asks.{IsFresh};
 ghost use Rattle.tj_body.specs.Programs.{program_of};
 ghost use Rattle.tj_body.specs.Rounds.{IsFull, meaning};
 ghost use Rattle.tj_embed.specs.Limits.{AreLimits};
 ghost use Rattle.tj_mean.specs.Outcomes.{IsOutcome};
-ghost use Rattle.tj_body.specs.Points.{IsIn};
 ghost use Rattle.tj_mean.specs.declared.outcome.Link.{Link};
 ghost use Rattle.tj_mean.specs.declared.outcome.Outcome.{Outcome};
 ghost use Rattle.tj_run.specs.Leaving.{Leaves};
@@ -27,19 +25,19 @@ ghost use Rattle.tj_words.specs.Law.{IsRooted};
 ghost use Rattle.tj_words.specs.LawParts.FirstState.{first_view};
 ghost use Rattle.tj_words.specs.LawParts.Lots.{least_lot};
 ghost use Rattle.tj_words.specs.LawParts.TreeWords.{IsCell};
-ghost use Rattle.tj_words.specs.AtRest.RestMeaning.{HaveMeaning};
 ghost use Rattle.tj_body.specs.History.{to_task};
 ghost use Rattle.tj_words.specs.SeatViews.SeatSteps.{IsSeatOf};
 ghost use Rattle.tj_words.specs.SeatViews.Views.{IsIdle, both, left_half};
 
 use crate::fault::ToldFault;
 use crate::listener::Listener;
+use crate::looks::Looks;
 use crate::observer::{Sight, observe};
 use crate::settling::tell_rest;
 use crate::telling::Telling;
 use std::alloc::Global;
 use std::sync::Wait;
-use std::thread::{Threads, join};
+use std::thread::{Parker, Threads, join};
 use tj_base::{CellId, Oom};
 use tj_body::Body;
 use tj_embed::Options;
@@ -52,16 +50,16 @@ use tj_run::{Left, Why, work_all};
 use tj_words::{Laid, RestWords, WSeat};
 
 /// Runs a root and all that it forks, as `tj_embed::run_outcome` does, and tells the listener of each
-/// cycle of waits, as it happens: beside the workers an observer looks for tasks that have alarmed, and
-/// sleeps for so many milliseconds between two looks, so the call may return as much later. By 0 it
-/// looks without a pause. What it didn't see is told at rest. The listener comes back. That the call
-/// returns isn't proved.
+/// cycle of waits, as it happens: beside the workers an observer looks for tasks that have alarmed, as
+/// often as `looks` says. What it didn't see is told at rest. When the workers have ended, they ring a
+/// bell, so an observer that sleeps holds nobody up. The listener comes back. That the call returns
+/// isn't proved.
 pub fn run_told<B: Body, T: Listener, R: Wait + Threads + Sync>(
     rt: &R,
     alloc: Global,
     root: B,
     options: Options,
-    every: u32,
+    looks: Looks,
     listener: T,
 ) -> (Result<Outcome, ToldFault>, T)
     requires limits { AreLimits options }
@@ -69,6 +67,9 @@ pub fn run_told<B: Body, T: Listener, R: Wait + Threads + Sync>(
     // The outcome is that of the meaning of the root.
     ensures outcome { let p = program_of B.places B.awaits B.left B.asks B.then options.strict root
         in IfOk result.0 (IsOutcome (meaning p options.cells)) }
+    // Where there is an outcome, the meaning isn't full.
+    ensures fits { let p = program_of B.places B.awaits B.left B.asks B.then options.strict root
+        in IfOk result.0 (λ _. ¬ IsFull p options.cells) }
     // With an outcome, the calls that the listener has heard were made with the outcome's cycles,
     // all of them, each once, and it answered On to each. So what is told early is never taken back.
     ensures told { IfOk result.0 (λ outcome. (cycles : List (List Link))
@@ -86,45 +87,20 @@ pub fn run_told<B: Body, T: Listener, R: Wait + Threads + Sync>(
     every_moment::<B>();
     let telling = Telling::new(alloc, listener);
     let (rest, telling) = run_beside::<B, NewestFirstPool, OpenGate, T, R>(
-        rt, alloc, root, options, &OpenGate, every, telling,
+        rt, alloc, root, options, &OpenGate, looks, telling,
     );
-    match rest {
-        Ok(rest) => at_rest(alloc, &rest, telling),
-        Err(why) => (Err(why), telling.listener),
-    }
-}
-
-/// The outcome, once each of its cycles is told.
-fn at_rest<B: Body, T: Listener>(
-    alloc: Global,
-    rest: &RestWords<B>,
-    telling: Telling<T>,
-) -> (Result<Outcome, ToldFault>, T)
-    requires meaning { HaveMeaning (program_of B.places B.awaits B.left B.asks B.then rest.now.strict
-        rest.now.root) rest.now.limit rest.now.cells rest.now.records }
-    requires among { (o : Outcome) → IsOutcome (meaning (program_of B.places B.awaits B.left B.asks
-        B.then rest.now.strict rest.now.root) rest.now.limit) o → (c : List Link)
-        → IsIn c telling.cycles → IsIn c o.cycles }
-    ensures outcome { let p = program_of B.places B.awaits B.left B.asks B.then rest.now.strict
-        rest.now.root in IfOk result.0 (IsOutcome (meaning p rest.now.limit)) }
-    ensures told { (s : T) → Hears T.tells telling.cycles s telling.listener
-        → IfOk result.0 (λ outcome. (cycles : List (List Link)) × Hears T.tells cycles s result.1
-        × AreTold cycles outcome.cycles) }
-    ensures stopped { (s : T) → Hears T.tells telling.cycles s telling.listener
-        → result.0 ≡ Err ToldFault.Stopped → (cycles : List (List Link))
-        × IsStoppedBy T.tells cycles s result.1 }
-    ensures heard { (s : T) → Hears T.tells telling.cycles s telling.listener
-        → result.0 ≢ Err ToldFault.Stopped → (cycles : List (List Link))
-        × Hears T.tells cycles s result.1 }
-    ensures full { result.0 ≢ Err ToldFault.Full }
-{
     let mut telling = telling;
-    match outcome_of(alloc, rest) {
-        Ok(outcome) => match tell_rest(alloc, &outcome.cycles, &mut telling) {
-            Ok(()) => (Ok(outcome), telling.listener),
-            Err(fault) => (Err(fault), telling.listener),
-        },
-        Err(Oom) => (Err(ToldFault::Oom), telling.listener),
+    let rest = match rest {
+        Ok(rest) => rest,
+        Err(why) => return (Err(why), telling.listener),
+    };
+    let outcome = match outcome_of(alloc, &rest) {
+        Ok(outcome) => outcome,
+        Err(Oom) => return (Err(ToldFault::Oom), telling.listener),
+    };
+    match tell_rest(alloc, &outcome.cycles, &mut telling) {
+        Ok(()) => (Ok(outcome), telling.listener),
+        Err(fault) => (Err(fault), telling.listener),
     }
 }
 
@@ -135,7 +111,7 @@ fn run_beside<B: Body, P: Pool, G: Gate, T: Listener, R: Wait + Threads + Sync>(
     root: B,
     options: Options,
     gate: &G,
-    every: u32,
+    looks: Looks,
     telling: Telling<T>,
 ) -> (Result<RestWords<B>, ToldFault>, Telling<T>)
     requires limits { AreLimits options }
@@ -158,7 +134,7 @@ fn run_beside<B: Body, P: Pool, G: Gate, T: Listener, R: Wait + Threads + Sync>(
         Err(Oom) => return (Err(ToldFault::Oom), telling),
     };
     let (seat, left, telling, sight) = work_told::<B, P, G, T, R>(
-        rt, alloc, &laid, seat, ends, gate, every, telling,
+        rt, alloc, &laid, seat, ends, gate, looks, telling,
     );
     (ended(laid, seat, left, sight), telling)
 }
@@ -221,7 +197,8 @@ fn ended<B: Body>(
 }
 
 // The workers, and beside them the observer, whose seat is taken in again. Where no thread can be made
-// for the observer, it comes after the workers.
+// for the observer, it comes after the workers. At their end the workers ring the bell by which it
+// sleeps.
 fn work_told<B: Body, P: Pool, G: Gate, T: Listener, R: Wait + Threads + Sync>(
     rt: &R,
     alloc: Global,
@@ -229,7 +206,7 @@ fn work_told<B: Body, P: Pool, G: Gate, T: Listener, R: Wait + Threads + Sync>(
     seat: WSeat<B>,
     ends: Vec<P>,
     gate: &G,
-    every: u32,
+    looks: Looks,
     telling: Telling<T>,
 ) -> (WSeat<B>, Left, Telling<T>, Sight)
     requires table { IsSeatOf laid.now seat }
@@ -252,6 +229,8 @@ fn work_told<B: Body, P: Pool, G: Gate, T: Listener, R: Wait + Threads + Sync>(
         → result.3 ≡ Sight.Stops → IsStoppedBy T.tells result.2.cycles s result.2.listener }
 {
     let (mine, theirs) = laid.split(seat);
+    let bell = Parker::new();
+    let bell = &bell;
     let watching = move || -> (WSeat<B>, Telling<T>, Sight)
         requires { Observes laid.now theirs }
         ensures { (result.0.table_id ≡ theirs.table_id) × IsIdle result.0.me.0
@@ -261,7 +240,7 @@ fn work_told<B: Body, P: Pool, G: Gate, T: Listener, R: Wait + Threads + Sync>(
             → result.2 ≢ Sight.Stops → Hears T.tells result.1.cycles s result.1.listener)
             × ((s : T) → Hears T.tells telling.cycles s telling.listener
             → result.2 ≡ Sight.Stops → IsStoppedBy T.tells result.1.cycles s result.1.listener) }
-    { observe(rt, alloc, laid, theirs, every, telling) };
+    { observe(rt, alloc, laid, theirs, looks, bell, telling) };
     let working = move || -> (WSeat<B>, Left)
         requires { IsSync R.row × IsSync G.row × IsSend B.row × IsSend P.row
             × IsSeatOf laid.now mine × IsFree laid.now mine.me
@@ -270,7 +249,11 @@ fn work_told<B: Body, P: Pool, G: Gate, T: Listener, R: Wait + Threads + Sync>(
             × HasLots (length ends.items) mine.me.0 }
         ensures { (result.0.table_id ≡ mine.table_id) × Leaves
             (program_of B.places B.awaits B.left B.asks B.then) result.1 mine.me.0 result.0.me }
-    { work_all::<B, P, G, R>(rt, alloc, laid, mine, ends, gate) };
+    {
+        let worked = work_all::<B, P, G, R>(rt, alloc, laid, mine, ends, gate);
+        bell.unpark();
+        worked
+    };
     let (watched, worked) = join(rt, watching, working);
     let (theirs, telling, sight) = watched;
     let (seat, left) = take_in(laid, worked.0, worked.1, theirs);

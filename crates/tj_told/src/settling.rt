@@ -1,9 +1,8 @@
 //! What is told at rest: each cycle of the outcome that wasn't told yet.
-ghost use Rattle.std.specs.Prelude.{◌≡◌, ◌≢◌, List, Err, IfOk};
+ghost use Rattle.std.specs.Prelude.{◌≡◌, ◌≢◌, ◌⊎◌, List, Err, IfOk};
 ghost use Rattle.tj_body.specs.Points.{IsIn};
 ghost use Rattle.tj_mean.specs.declared.outcome.Link.{Link};
 ghost use Rattle.tj_told.specs.Hearing.{Hears, IsStoppedBy};
-ghost use Rattle.tj_told.specs.ToldCycles.{AreTold};
 ghost use Rattle.tj_told.specs.declared.fault.ToldFault.TheVariants as fault;
 
 use crate::fault::ToldFault;
@@ -18,8 +17,10 @@ pub(crate) fn tell_rest<T: Listener>(
     cycles: &CycleList,
     telling: &mut Telling<T>,
 ) -> Result<(), ToldFault>
-    requires among { (c : List Link) → IsIn c telling.old.cycles → IsIn c cycles.now }
-    ensures told { IfOk result (λ _. AreTold telling.new.cycles cycles.now) }
+    ensures only { IfOk result (λ _. (c : List Link) → IsIn c telling.new.cycles
+        → IsIn c telling.old.cycles ⊎ IsIn c cycles.now) }
+    ensures all { IfOk result (λ _. (c : List Link) → IsIn c cycles.now
+        → IsIn c telling.new.cycles) }
     ensures goes { (s : T) → Hears T.tells telling.old.cycles s telling.old.listener
         → result ≢ Err fault.Stopped → Hears T.tells telling.new.cycles s telling.new.listener }
     ensures stops { (s : T) → Hears T.tells telling.old.cycles s telling.old.listener

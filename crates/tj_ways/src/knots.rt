@@ -7,7 +7,7 @@ use tj_embed::Options;
 use tj_examples::Knot;
 use tj_mean::LinkList;
 use tj_task::{Replay, TaskBody};
-use tj_told::{Goes, Listener, run_told};
+use tj_told::{Goes, Listener, Looks, run_told};
 
 /// Writes down each cycle that it is told, and stops the run where memory is lacking.
 #[derive(Drop)]
@@ -47,7 +47,7 @@ pub(crate) fn told_knot<R: Wait + Threads + Sync + AllocGlobal>(rt: &R) -> Optio
         alloc,
         text: Vec::new(alloc),
     };
-    let (outcome, writes) = run_told(rt, alloc, root, Options::usual(), 2, writes);
+    let (outcome, writes) = run_told(rt, alloc, root, Options::usual(), Looks::Every(2), writes);
     match outcome {
         Ok(_outcome) => Some(writes.text),
         Err(_fault) => None,

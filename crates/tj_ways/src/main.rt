@@ -4,6 +4,7 @@
 
 mod bodies;
 mod channels;
+mod kept;
 mod knots;
 mod native;
 mod rows;
@@ -12,10 +13,11 @@ mod told;
 
 use bodies::handed_over;
 use channels::two_receivers;
+use kept::kept_circle;
 use knots::told_knot;
 use native::{fibonacci, in_a_knot, sum};
 use rows::handed_to_a_child;
-use scripts::{on_a_cycle, position_of_a_fault, which_owe};
+use scripts::{on_a_cycle, planned_and_run, position_of_a_fault, which_owe};
 use std::io;
 use std::process::ExitCode;
 use std::sync::Wait;
@@ -23,7 +25,7 @@ use std::thread::Threads;
 use tj_ports::{StdSink, put_all};
 
 /// What all of them give, where memory lasts.
-fn texts<R: Wait + Threads + Sync + AllocGlobal>(rt: &R) -> Option<[Vec<u8>; 10]> {
+fn texts<R: Wait + Threads + Sync + AllocGlobal>(rt: &R) -> Option<[Vec<u8>; 12]> {
     Some([
         which_owe(rt)?,
         on_a_cycle(rt)?,
@@ -35,6 +37,8 @@ fn texts<R: Wait + Threads + Sync + AllocGlobal>(rt: &R) -> Option<[Vec<u8>; 10]
         fibonacci(rt)?,
         sum(rt)?,
         told_knot(rt)?,
+        kept_circle(rt)?,
+        planned_and_run(rt)?,
     ])
 }
 

@@ -6,7 +6,7 @@ use std::alloc::Global;
 use std::sync::Wait;
 use std::thread::Threads;
 use tj_base::{Name, add_count};
-use tj_embed::{Options, cycle_with, line_of, owing, run_script, script_in};
+use tj_embed::{Options, cycle_with, line_of, owing, plan_script, run_script, script_in};
 use tj_mean::{Ending, Outcome, TaskLine};
 
 /// A task that forgets its promise.
@@ -22,7 +22,7 @@ task giver(p) {
 ";
 
 /// Two tasks that wait for each other.
-const CIRCLE: &[u8] = b"task main() {
+pub(crate) const CIRCLE: &[u8] = b"task main() {
   let p = new;
   let q = new;
   fork partner(own p, q);
@@ -96,6 +96,35 @@ fn cycle_text(alloc: Global, outcome: &Outcome) -> Option<Vec<u8>> {
     let mut text = Vec::new(alloc);
     add_count(&mut text, b"on a cycle of ", count as u128).ok()?;
     text.extend_from_slice(b"\n").ok()?;
+    Some(text)
+}
+
+/// How many tasks the same script has, by its plan on one thread.
+fn planned(alloc: Global) -> Option<usize> {
+    let script = script_in(alloc, CIRCLE).ok()?;
+    let outcome = plan_script(alloc, &script, Options::usual()).ok()?;
+    Some(outcome.lines.items().len())
+}
+
+/// Whether its run is marked, and how many cells the run has drawn.
+fn marked_and_drawn<R: Wait + Threads + Sync + AllocGlobal>(rt: &R) -> Option<(bool, u32)> {
+    let alloc = rt.alloc();
+    let script = script_in(alloc, CIRCLE).ok()?;
+    let run = run_script(rt, alloc, &script, Options::usual()).ok()?;
+    let marked = run.is_marked(alloc).ok()?;
+    Some((marked, run.into_closed().drawn()))
+}
+
+/// The text of both.
+pub(crate) fn planned_and_run<R: Wait + Threads + Sync + AllocGlobal>(rt: &R) -> Option<Vec<u8>> {
+    let alloc = rt.alloc();
+    let tasks = planned(alloc)?;
+    let (marked, drawn) = marked_and_drawn(rt)?;
+    let mut text = Vec::new(alloc);
+    add_count(&mut text, b"tasks ", tasks as u128).ok()?;
+    add_count(&mut text, b", cells ", drawn as u128).ok()?;
+    let end: &[u8] = if marked { b", marked\n" } else { b", clean\n" };
+    text.extend_from_slice(end).ok()?;
     Some(text)
 }
 

@@ -1,23 +1,6 @@
 -- Each call is such a step, and calls one after the other are a run of the core.
 pub mod KeptCells
-pub mod CallChanges
-pub mod EventCalls
-pub mod DrawCalls
-pub mod OneStates
-pub mod TableRuns
-pub mod CallRuns
-pub mod RestedRuns
 pub mod StepActs
 pub mod ToldSteps
 pub mod LoggedRuns
-pub mod LastingWords
-pub mod OneHolders
-pub mod PushRuns
-pub mod Verdicts
-pub mod AlikeSeats
-pub mod CallStores
-pub mod CallViews
-pub mod SlotSteps
-pub mod OwnRuns
-pub mod LoneSeats
-pub mod EntrySteps
+pub mod FoundHeads

@@ -1,5 +1,4 @@
 -- Lemmas of this crate that many of its proofs cite, passed on from one place. Declares nothing.
-pub use Rattle.tj_words.proofs.Calls.CallStores.{step_stays}
 pub use Rattle.tj_words.proofs.Cells.CellFacts.{cell_born, sort_is, wait_shown}
 pub use Rattle.tj_words.proofs.Cells.CellNames.{AreApartByName, are_cells, born_apart, cell_of_name, last_at, name_of}
 pub use Rattle.tj_words.proofs.Cells.HandChanges.{IsAlike, births_on, custody_on, hands_on, names_on, once_on, tree_on}
@@ -31,7 +30,6 @@ pub use Rattle.tj_words.proofs.Meaning.MeaningGrows.{AreFilledIn, FilledIn, Mean
 pub use Rattle.tj_words.proofs.Phases.PhaseStores.{left_seat, left_stores, phase_stores}
 pub use Rattle.tj_words.proofs.SeatLoads.Learning.{IsSo, knowing_of}
 pub use Rattle.tj_words.proofs.SeatLoads.LoadSteps.{Learns, knows_so, law_allowed, load_allowed, total_fits}
-pub use Rattle.tj_words.proofs.SeatLoads.MomentSteps.{moment_allowed, so_too}
 pub use Rattle.tj_words.proofs.Seating.Splitting.{total_set}
 pub use Rattle.tj_words.proofs.Stores.LawChanges.{law_kept}
 pub use Rattle.tj_words.proofs.Stores.OnceStores.{once_stored, tree_words_stored}

@@ -10,3 +10,4 @@ pub mod Calls
 pub mod Meaning
 pub mod Seating
 pub mod Lemmas
+pub mod CallTerms

@@ -9,5 +9,4 @@ pub mod RestingCells
 pub mod RestingMeaning
 pub mod MeantCycles
 pub mod Rested
-pub mod EndedRecords
 pub mod EndedRuns

@@ -34,9 +34,9 @@ pub use Rattle.tj_events.specs.CoreFacts.{CoreFacts}
 pub use Rattle.tj_events.specs.CoreState.{CellStage, CellState, CoreState, Runs, alarmed, blank, fresh, is_task, maker}
 pub use Rattle.tj_events.specs.CoreState.{name, owner, parked, present, raised, root_alone, running, stage, wait_of}
 pub use Rattle.tj_events.specs.CoreState.{waits, walks}
-pub use Rattle.tj_events.specs.Events.{Allowed, MayCount, MayReadAgain, MayReadOthers, MayReadOwner, after, alter}
-pub use Rattle.tj_events.specs.Events.{count_read, is_owner, others_read, owner_found, owner_read, raised_by_way}
-pub use Rattle.tj_events.specs.Events.{restage, staged, start_walk, wait_found, way_if, way_of_wait, with_new}
+pub use Rattle.tj_events.specs.Events.{Allowed, MayCount, MayReadAgain, MayReadOthers, MayReadOwner, after, count_read}
+pub use Rattle.tj_events.specs.Events.{is_owner, others_read, owner_found, owner_read, raised_by_way, restage, staged}
+pub use Rattle.tj_events.specs.Events.{start_walk, wait_found, way_if, way_of_wait, with_new}
 pub use Rattle.tj_events.specs.Laws.{EventKeepsFacts}
 pub use Rattle.tj_events.specs.StateLaws.{AlarmsAreOnCycles, CyclesAreWatched}
 pub use Rattle.tj_events.specs.WalkLaws.{OthersAreFew}
@@ -44,14 +44,14 @@ pub use Rattle.tj_events.specs.declared.event.Event.{Event}
 pub use Rattle.tj_events.specs.declared.walk.LastRead.TheVariants.{SawOwner, SawWait}
 pub use Rattle.tj_events.specs.declared.walk.Walker.{Walker}
 pub use Rattle.tj_events.specs.declared.walk.Way.{Way}
-pub use Rattle.tj_tree.proofs.Trees.{IsJump-of, node_of-child, node_of-older}
+pub use Rattle.tj_tree.proofs.Trees.{IsJump-of, node_of-child}
 pub use Rattle.tj_tree.specs.Forks.{Fork, Forks, HasTask, IsHistory}
 pub use Rattle.tj_tree.specs.Nodes.{jump_from, node_of}
 pub use Rattle.tj_tree.specs.declared.node.Node.{Node}
 pub use Rattle.tj_tree.specs.declared.node.NodeId.{NodeId}
 pub use Rattle.tj_words.specs.AtRest.ClosedCells.{AreAlarmsOnCycles, AreAtRest, AreCyclesAlarmed, IsPromise, IsShown}
 pub use Rattle.tj_words.specs.AtRest.ClosedCells.{IsStill, Leads, Owns, Waits}
-pub use Rattle.tj_words.specs.AtRest.RestMeaning.{AreWordsOf, IsPhaseAt, names}
+pub use Rattle.tj_words.specs.AtRest.RestMeaning.{names}
 pub use Rattle.tj_words.specs.AtRest.RestShown.{AreSlots}
 pub use Rattle.tj_words.specs.AtRest.RestingSeats.{MayRest}
 pub use Rattle.tj_words.specs.CallLaws.CallRuns.{AreAskedMoments, IsAskedStep, events_by, joined, phase_events}
@@ -108,7 +108,6 @@ pub use Rattle.tj_words.specs.LawParts.TreeWords.{AreCells, Births, IsCell, IsDu
 pub use Rattle.tj_words.specs.LawParts.TreeWords.{depth_word, jump_word, parent_word, tree_word}
 pub use Rattle.tj_words.specs.SeatViews.FullMeaning.{stop_load}
 pub use Rattle.tj_words.specs.SeatViews.KnownEntries.{HasSeen, ToldBy}
-pub use Rattle.tj_words.specs.SeatViews.Moments.{WasSo, was_so}
 pub use Rattle.tj_words.specs.SeatViews.SeatSteps.{IsCount, SeatMe, live_load, plain_load}
 pub use Rattle.tj_words.specs.SeatViews.SeenWords.{FindsWord, IsTaskIn, MayReadTree, NextTold, SeesOnce, ShowsNode}
 pub use Rattle.tj_words.specs.SeatViews.SeenWords.{head_load, next_load, seen_word}

@@ -2,8 +2,6 @@
 pub mod LoggedSteps
 pub mod Learning
 pub mod LoadSteps
-pub mod MomentSteps
-pub mod MomentLaws
 pub mod KnowLoads
 pub mod MetCells
 pub mod HeadLoads

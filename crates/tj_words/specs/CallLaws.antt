@@ -5,10 +5,4 @@ pub mod StepLogs
 pub mod CallRuns
 pub mod RestedRuns
 pub mod LoggedRuns
-pub mod LastingWords
-pub mod PushRuns
-pub mod Verdicts
-pub mod AlikeSeats
 pub mod FreshTables
-pub mod OwnRuns
-pub mod LoneSeats

@@ -7,5 +7,3 @@ pub mod KnownEntries
 pub mod KnowsMore
 pub mod TreeReads
 pub mod FullMeaning
-pub mod Moments
-pub mod MomentLaws

@@ -3,6 +3,4 @@ pub mod StepEvents
 pub mod WalkSteps
 pub mod OwnerSteps
 pub mod QuietSteps
-pub mod OneStates
 pub mod TableRuns
-pub mod OneHolders

@@ -5,11 +5,9 @@ ghost use Rattle.tj_words.specs.CallLaws.StepCalls as call;
 ghost use Rattle.tj_words.specs.CallLaws.StepLogs.{IsLogged};
 ghost use Rattle.tj_words.specs.Calls.ChainSteps.{HasPush, HasPushBehind, KnowsEntry, TakesChain};
 ghost use Rattle.tj_words.specs.Calls.ChainSteps.{found_taken, pushed, stored_next};
-ghost use Rattle.tj_words.specs.Calls.PushSteps.{ChainIsFound, FindsLonger};
+ghost use Rattle.tj_words.specs.Calls.PushSteps.{FindsLonger};
 ghost use Rattle.tj_words.specs.Words.Heads as heads;
-ghost use Rattle.tj_words.specs.Words.Offsets.{head_at};
 ghost use Rattle.tj_words.specs.LawParts.LiveCount.{IsBacked};
-ghost use Rattle.tj_words.specs.SeatViews.Moments.{WasSo};
 ghost use Rattle.tj_words.specs.SeatViews.SeatSteps.{IsSameSeat};
 ghost use Rattle.tj_words.specs.SeatViews.SeenWords.{FindsChain, FindsShut};
 
@@ -57,19 +55,9 @@ impl<B: Body> Laid<B> {
         ensures shut { result ≡ Head.Shut
             → FindsShut (program_of B.places B.awaits B.left B.asks B.then)
             self.now.cells p.0 seat.old.me.0 seat.new.me.0 }
-        // Else the seat knows the chain that was found.
+        // Else the seat knows the chain that was found, which lacks the task.
         ensures other { result ≢ behind → result ≢ Head.Shut
             → FindsChain self.now.cells p.0 result seat.old.me.0 seat.new.me.0 }
-        // What is told is what stood in HEAD of the cell in some table under the law, in which a
-        // seat had this view.
-        ensures moment { WasSo (program_of B.places B.awaits B.left B.asks B.then) (head_at p.0)
-            (heads.head_word result) seat.old.me.0 }
-
-        // If the push finds the head that it expects, the chain at such a moment is each chain that
-        // the seat had found with this head: none was taken and built again in between.
-        ensures lengthens { result ≡ behind
-            → ChainIsFound (program_of B.places B.awaits B.left B.asks B.then) p.0 behind
-            seat.old.me.0 }
         // If it finds another head that isn't shut, the chain that it finds is longer than each
         // chain that the seat had found with the head that it expects.
         ensures longer { result ≢ behind → result ≢ Head.Shut

@@ -10,10 +10,8 @@ pub(crate) struct PhaseExchange;
 impl<B: Body> Play<Option<Rec<B>>, View<B>> for PhaseExchange {
     ghost use Rattle.tj_body.specs.Programs.{program_of};
     ghost use Rattle.tj_words.specs.Calls.ExchangeViews.{phase_swap};
-    ghost use Rattle.tj_words.specs.SeatViews.Moments.{at_moment};
     ghost use Rattle.tj_words.specs.Inner.CellTold.{of_its_cell};
 
-    ghost then = { at_moment (program_of B.places B.awaits B.left B.asks B.then)
-        (of_its_cell (λ cells c. phase_swap
-        (program_of B.places B.awaits B.left B.asks B.then) c cells)) };
+    ghost then = { of_its_cell (λ cells c. phase_swap
+        (program_of B.places B.awaits B.left B.asks B.then) c cells) };
 }

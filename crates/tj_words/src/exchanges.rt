@@ -4,8 +4,6 @@ ghost use Rattle.std.specs.Prelude.{◌≡◌, ◌≢◌, ◌<◌, IfErr, OnOk};
 ghost use Rattle.tj_body.specs.Programs.{program_of};
 ghost use Rattle.tj_words.specs.CallLaws.StepCalls as call;
 ghost use Rattle.tj_words.specs.CallLaws.StepLogs.{IsLogged};
-ghost use Rattle.tj_words.specs.SeatViews.Moments.{WasSo};
-ghost use Rattle.tj_words.specs.Words.Offsets.{phase_at};
 ghost use Rattle.tj_words.specs.Words.Codes as codes;
 ghost use Rattle.tj_words.specs.Calls.ExchangeViews.{MaySwap, Swaps, missed};
 ghost use Rattle.tj_words.specs.Words.Phases as phases;
@@ -49,11 +47,6 @@ impl<B: Body> Laid<B> {
         // of the task. From Parked the exchange doesn't fail.
         ensures found { IfErr result (λ p. (was ≡ Phase.Ready) × (p ≢ was)
             × (seat.new.me ≡ (missed t.0 p seat.old.me.0, seat.old.me.1))) }
-        // In some table under the law a seat has the view before the call while PHASE of the task
-        // is the word of the phase that an error tells.
-        ensures moment { IfErr result (λ p. WasSo
-            (program_of B.places B.awaits B.left B.asks B.then) (phase_at t.0) (phases.phase_word p)
-            seat.old.me.0) }
         // The seat's log is longer by one entry: PHASE of the task was exchanged, and was as it was
         // thought to be.
         ensures log_swapped { OnOk result (IsLogged (call.swaps_phase t.0) (phases.phase_word was)
@@ -82,8 +75,6 @@ impl<B: Body> Laid<B> {
         ensures found { result ≢ phases.phase_word was → (was ≡ Phase.Ready)
             × (seat.new.me ≡ (noted_step (Noted.Missed t.0) result seat.old.me.0, seat.old.me.1))
             × codes.IsPhaseWord self.now.cells result }
-        ensures moment { WasSo (program_of B.places B.awaits B.left B.asks B.then) (phase_at t.0)
-            result seat.old.me.0 }
         ensures log { IsLogged (call.swaps_phase t.0) (phases.phase_word was) (phases.phase_word to)
             result seat.old seat.new }
     {

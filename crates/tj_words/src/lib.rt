@@ -34,10 +34,7 @@ mod walks;
 
 pub use closed::{Closed, RestCell};
 pub use head::Head;
-pub use laws::{
-    call_runs, ended_walks, found_chains, fresh_is_first, lasting_words, moments, one_state,
-    own_runs, rested_runs, slot_steps, tables_have_runs, wakes,
-};
+pub use laws::{fresh_is_first, tables_have_runs};
 pub use links::{link_cell, link_word};
 pub use offsets::Once;
 pub use phase::{Phase, Walk};
@@ -51,11 +48,8 @@ pub use view::{
     About, Custody, Does, Due, Filled, Found, Hand, Note, Noted, Push, Rest, SeenWord, View,
 };
 
-mod alike_laws;
 mod links;
 mod parking;
 mod record_changes;
 mod record_reads;
 mod stop;
-
-pub use alike_laws::alike_seats;

@@ -5,8 +5,6 @@ ghost use Rattle.tj_body.specs.Programs.{program_of};
 ghost use Rattle.tj_words.specs.CallLaws.StepCalls as call;
 ghost use Rattle.tj_words.specs.CallLaws.StepLogs.{IsLogged};
 ghost use Rattle.tj_words.specs.SeatViews.FullMeaning.{NamesFull};
-ghost use Rattle.tj_words.specs.SeatViews.Moments.{WasSo};
-ghost use Rattle.tj_words.specs.Words.Offsets.{count_at, live_at, next_at, own_at, phase_at, stop_at};
 ghost use Rattle.tj_words.specs.Words.Heads as heads;
 ghost use Rattle.tj_words.specs.Calls.MetCells.{SeesOwner, SeesPhase};
 ghost use Rattle.tj_words.specs.Calls.ParkSteps.{FirstTold};
@@ -19,7 +17,7 @@ ghost use Rattle.tj_words.specs.Steps.StepEvents.{wait_in};
 ghost use Rattle.tj_words.specs.Words.Codes as codes;
 ghost use Rattle.tj_words.specs.Words.Owners.{owner_number, owner_word};
 ghost use Rattle.tj_words.specs.Calls.WalkViews.{ReadsCount};
-ghost use Rattle.tj_words.specs.SeatViews.Views.{loaded_plain, noted_step, saw_live, saw_rest};
+ghost use Rattle.tj_words.specs.SeatViews.Views.{noted_step, saw_live, saw_rest};
 ghost use Rattle.tj_words.specs.SeatViews.Views.{saw_stop};
 
 use crate::head::Head;
@@ -47,10 +45,6 @@ impl<B: Body> Laid<B> {
         // Where it isn't 0, the seat has made a step, and its view has this, with what was found,
         // as the last of its notes.
         ensures live { result ≢ 0 → seat.new.me.0 ≡ saw_live result seat.old.me.0 }
-        // In some table under the law a seat has the view before the call while LIVE is this
-        // number.
-        ensures moment { WasSo (program_of B.places B.awaits B.left B.asks B.then) live_at result
-            seat.old.me.0 }
         // The seat's log is longer by one entry: LIVE was loaded, and this number found.
         ensures log { IsLogged call.sees_live 0 0 result seat.old seat.new }
     {
@@ -73,10 +67,6 @@ impl<B: Body> Laid<B> {
             → NamesFull (program_of B.places B.awaits B.left B.asks B.then) seat.old.me.0 }
         // It isn't 0 where this seat has stored something there.
         ensures stands { (n : ℕ) → IsIn n seat.old.me.0.stored → result ≢ 0 }
-        // In some table under the law a seat has the view before the call while STOP is this
-        // number.
-        ensures moment { WasSo (program_of B.places B.awaits B.left B.asks B.then) stop_at result
-            seat.old.me.0 }
         // The seat's log is longer by one entry: STOP was loaded, and this number found.
         ensures log { IsLogged call.sees_stop 0 0 result seat.old seat.new }
     {
@@ -88,9 +78,6 @@ impl<B: Body> Laid<B> {
         requires table { seat.old.table_id ≡ self.now.table.shared.table_id }
         ensures seat { IsSameSeat seat.old seat.new }
         ensures view { ReadsCount None self.now.cells result seat.old.me.0 seat.new.me.0 }
-        ensures moment { (n : ℕ) × (result ≡ min n self.now.cells)
-            × (seat.new.me.0 ≡ loaded_plain Noted.Count n seat.old.me.0)
-            × WasSo (program_of B.places B.awaits B.left B.asks B.then) count_at n seat.old.me.0 }
         ensures some { 0 < result }
         ensures few { result ≤ self.now.cells }
         ensures log { (n : ℕ) × (result ≡ min n self.now.cells)
@@ -107,8 +94,6 @@ impl<B: Body> Laid<B> {
         ensures seat { IsSameSeat seat.old seat.new }
         ensures view { SeesOwner self.now.cells c.0 (owner_number result) seat.old.me.0 seat.new.me.0 }
         ensures task { (u : CellId) → result ≡ Some u → u.0 < self.now.cells }
-        ensures moment { WasSo (program_of B.places B.awaits B.left B.asks B.then) (own_at c.0)
-            (owner_word (owner_number result)) seat.old.me.0 }
         ensures log { IsLogged (call.sees_owner c.0) 0 0 (owner_word (owner_number result))
             seat.old seat.new }
     {
@@ -124,8 +109,6 @@ impl<B: Body> Laid<B> {
         ensures view { SeesPhase self.now.cells t.0 result seat.old.me.0 seat.new.me.0 }
         ensures first { FirstTold t.0 result seat.old.me.0 }
         ensures wait { (c : ℕ) → wait_in result ≡ Some c → c < self.now.cells }
-        ensures moment { WasSo (program_of B.places B.awaits B.left B.asks B.then) (phase_at t.0)
-            (phases.phase_word result) seat.old.me.0 }
         ensures log { IsLogged (call.sees_phase t.0) 0 0 (phases.phase_word result)
             seat.old seat.new }
     {
@@ -168,10 +151,6 @@ impl<B: Body> Laid<B> {
         ensures small { heads.head_word result ≤ self.now.cells }
         // Of the first task of the seat's rest NEXT names the next one of the rest.
         ensures first { NextTold t.0 result seat.old.me.0 }
-        // In some table under the law a seat has the view before the call while NEXT of the task is
-        // the word of this head.
-        ensures moment { WasSo (program_of B.places B.awaits B.left B.asks B.then) (next_at t.0)
-            (heads.head_word result) seat.old.me.0 }
         // The seat's log is longer by one entry: NEXT of the task was loaded, and the word of this
         // head found.
         ensures log { IsLogged (call.sees_next t.0) 0 0 (heads.head_word result) seat.old seat.new }

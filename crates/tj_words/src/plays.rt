@@ -5,7 +5,6 @@ ghost use Rattle.tj_words.specs.Calls.MetCells.{owner_load, phase_load};
 ghost use Rattle.tj_words.specs.SeatViews.SeenWords.{head_load, next_load, once_load};
 ghost use Rattle.tj_base.specs.declared.cell.Sort.{Sort};
 ghost use Rattle.tj_words.specs.Inner.IndexWords.{once_of};
-ghost use Rattle.tj_words.specs.SeatViews.Moments.{at_moment};
 ghost use Rattle.tj_words.specs.SeatViews.SeatSteps.{IsCount, live_load, plain_load};
 ghost use Rattle.tj_words.specs.Inner.CellTold.{of_its_cell};
 ghost use Rattle.tj_words.specs.declared.view.Noted.TheVariants as note;
@@ -37,37 +36,28 @@ impl Naming for Brand {
 pub(crate) struct CountLoad;
 
 impl<B: Body> Play<Option<Rec<B>>, View<B>> for CountLoad {
-    ghost use Rattle.tj_body.specs.Programs.{program_of};
-
-    ghost then = { at_moment (program_of B.places B.awaits B.left B.asks B.then)
-        (of_its_cell (λ cells c. plain_load note.Count (IsCount cells))) };
+    ghost then = { of_its_cell (λ cells c. plain_load note.Count (IsCount cells)) };
 }
 
 /// A load of OWN that is no event.
 pub(crate) struct OwnerLoad;
 
 impl<B: Body> Play<Option<Rec<B>>, View<B>> for OwnerLoad {
-    ghost use Rattle.tj_body.specs.Programs.{program_of};
-
-    ghost then = { at_moment (program_of B.places B.awaits B.left B.asks B.then) (of_its_cell owner_load) };
+    ghost then = { of_its_cell owner_load };
 }
 
 /// A load of PHASE that is no event.
 pub(crate) struct PhaseLoad;
 
 impl<B: Body> Play<Option<Rec<B>>, View<B>> for PhaseLoad {
-    ghost use Rattle.tj_body.specs.Programs.{program_of};
-
-    ghost then = { at_moment (program_of B.places B.awaits B.left B.asks B.then) (of_its_cell phase_load) };
+    ghost then = { of_its_cell phase_load };
 }
 
 /// A load of LIVE.
 pub(crate) struct LiveLoad;
 
 impl<B: Body> Play<Option<Rec<B>>, View<B>> for LiveLoad {
-    ghost use Rattle.tj_body.specs.Programs.{program_of};
-
-    ghost then = { at_moment (program_of B.places B.awaits B.left B.asks B.then) live_load };
+    ghost then = { live_load };
 }
 
 /// A load of STOP.
@@ -77,8 +67,7 @@ impl<B: Body> Play<Option<Rec<B>>, View<B>> for StopLoad {
     ghost use Rattle.tj_body.specs.Programs.{program_of};
     ghost use Rattle.tj_words.specs.SeatViews.FullMeaning.{stop_load};
 
-    ghost then = { at_moment (program_of B.places B.awaits B.left B.asks B.then)
-        (stop_load (program_of B.places B.awaits B.left B.asks B.then)) };
+    ghost then = { stop_load (program_of B.places B.awaits B.left B.asks B.then) };
 }
 
 /// A load of HEAD.
@@ -94,9 +83,7 @@ impl<B: Body> Play<Option<Rec<B>>, View<B>> for HeadLoad {
 pub(crate) struct NextLoad;
 
 impl<B: Body> Play<Option<Rec<B>>, View<B>> for NextLoad {
-    ghost use Rattle.tj_body.specs.Programs.{program_of};
-
-    ghost then = { at_moment (program_of B.places B.awaits B.left B.asks B.then) (of_its_cell next_load) };
+    ghost then = { of_its_cell next_load };
 }
 
 /// A load of a word that is written once.
@@ -122,8 +109,7 @@ pub(crate) struct PushExchange;
 impl<B: Body> Play<Option<Rec<B>>, View<B>> for PushExchange {
     ghost use Rattle.tj_body.specs.Programs.{program_of};
 
-    ghost then = { at_moment (program_of B.places B.awaits B.left B.asks B.then)
-        (of_its_cell (push_exchange (program_of B.places B.awaits B.left B.asks B.then))) };
+    ghost then = { of_its_cell (push_exchange (program_of B.places B.awaits B.left B.asks B.then)) };
 }
 
 /// A swap of HEAD that shuts it.

@@ -189,4 +189,6 @@ pub struct View<B> {
     pub told: [u64; 0],
     /// Its steps of which nothing else here tells, the last first.
     pub notes: [Note; 0],
+    /// The records that its steps took out of home, the last first, each as it lay there.
+    pub records: Items<Rec<B>>,
 }

@@ -4,7 +4,6 @@ ghost use Rattle.tj_events.specs.Events.{count_read, others_read, wait_found};
 ghost use Rattle.tj_words.specs.Words.Codes.{IsPhaseWord};
 ghost use Rattle.tj_words.specs.Words.Owners.{owner_in};
 ghost use Rattle.tj_words.specs.Words.Phases.{phase_in};
-ghost use Rattle.tj_words.specs.SeatViews.Moments.{at_moment};
 ghost use Rattle.tj_words.specs.SeatViews.SeatSteps.{IsCount};
 ghost use Rattle.tj_words.specs.Inner.CellTold.{of_its_cell};
 ghost use Rattle.tj_words.specs.Steps.StepEvents.{wait_in};
@@ -24,10 +23,8 @@ pub(crate) struct WalkerCount<M> {
 }
 
 impl<B: Body, M: Naming> Play<Option<Rec<B>>, View<B>> for WalkerCount<M> {
-    ghost use Rattle.tj_body.specs.Programs.{program_of};
-
-    ghost then = { at_moment (program_of B.places B.awaits B.left B.asks B.then)
-        (of_its_cell (λ cells c. walk_load M.task (λ n. count_read (min n cells)) (IsCount cells))) };
+    ghost then = { of_its_cell (λ cells c. walk_load M.task
+        (λ n. count_read (min n cells)) (IsCount cells)) };
 }
 
 /// A load of OWN by a walker.
@@ -36,11 +33,8 @@ pub(crate) struct WalkerOwner<M> {
 }
 
 impl<B: Body, M: Naming> Play<Option<Rec<B>>, View<B>> for WalkerOwner<M> {
-    ghost use Rattle.tj_body.specs.Programs.{program_of};
-
-    ghost then = { at_moment (program_of B.places B.awaits B.left B.asks B.then)
-        (of_its_cell (λ cells c. walk_load M.task (λ n w. owner_seen (owner_in n) w w.last)
-        (λ n. n ≤ cells))) };
+    ghost then = { of_its_cell (λ cells c. walk_load M.task
+        (λ n w. owner_seen (owner_in n) w w.last) (λ n. n ≤ cells)) };
 }
 
 /// A load of PHASE by a walker.
@@ -49,11 +43,8 @@ pub(crate) struct WalkerWait<M> {
 }
 
 impl<B: Body, M: Naming> Play<Option<Rec<B>>, View<B>> for WalkerWait<M> {
-    ghost use Rattle.tj_body.specs.Programs.{program_of};
-
-    ghost then = { at_moment (program_of B.places B.awaits B.left B.asks B.then)
-        (of_its_cell (λ cells c. walk_load M.task (λ n. wait_found c (wait_in (phase_in n)))
-        (IsPhaseWord cells))) };
+    ghost then = { of_its_cell (λ cells c. walk_load M.task
+        (λ n. wait_found c (wait_in (phase_in n))) (IsPhaseWord cells)) };
 }
 
 /// A load of OTHERS.
@@ -62,10 +53,7 @@ pub(crate) struct WalkerOthers<M> {
 }
 
 impl<B: Body, M: Naming> Play<Option<Rec<B>>, View<B>> for WalkerOthers<M> {
-    ghost use Rattle.tj_body.specs.Programs.{program_of};
-
-    ghost then = { at_moment (program_of B.places B.awaits B.left B.asks B.then)
-        (walk_load M.task others_read (λ n. n < 2 ^ 32)) };
+    ghost then = { walk_load M.task others_read (λ n. n < 2 ^ 32) };
 }
 
 /// An add to OTHERS.

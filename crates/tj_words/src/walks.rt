@@ -1,13 +1,10 @@
 //! Loads that are events of a walker, where they name one, and steps on OTHERS.
 ghost use Rattle.std.specs.Prelude.{◌≡◌, ℕ, ◌<◌, ◌≤◌, ◌^◌, min, None, Some};
-ghost use Rattle.tj_body.specs.Programs.{program_of};
 ghost use Rattle.tj_events.specs.CoreState.{present};
 ghost use Rattle.tj_events.specs.Events.{MayCount, MayReadOthers};
 ghost use Rattle.tj_events.specs.Events.{count_read, others_read, wait_found};
 ghost use Rattle.tj_words.specs.CallLaws.StepCalls as call;
 ghost use Rattle.tj_words.specs.CallLaws.StepLogs.{IsLogged};
-ghost use Rattle.tj_words.specs.SeatViews.Moments.{WasSo};
-ghost use Rattle.tj_words.specs.Words.Offsets.{count_at, others_at, own_at, phase_at};
 ghost use Rattle.tj_words.specs.Words.Codes as codes;
 ghost use Rattle.tj_words.specs.Words.Owners.{owner_in, owner_number, owner_word};
 ghost use Rattle.tj_words.specs.Calls.MetCells.{LoadsOwner, LoadsPhase};
@@ -16,7 +13,6 @@ ghost use Rattle.tj_words.specs.Words.Phases.{phase_in, phase_word};
 ghost use Rattle.tj_words.specs.SeatViews.SeatSteps as steps;
 ghost use Rattle.tj_words.specs.SeatViews.SeatSteps.{IsSameSeat};
 ghost use Rattle.tj_words.specs.Steps.StepEvents.{wait_in};
-ghost use Rattle.tj_words.specs.SeatViews.Views.{loaded_plain};
 ghost use Rattle.tj_words.specs.Calls.WalkViews.{IsWalking, MayLoadBy, MayLoadOwner, MayLoadWait};
 ghost use Rattle.tj_words.specs.Calls.WalkViews.{MayRaise, ReadsCount, lowered};
 ghost use Rattle.tj_words.specs.Calls.WalkViews.{owner_seen, read_on};
@@ -47,12 +43,6 @@ impl<B: Body> Laid<B> {
         // A walker that is named has its bound from then on; where none is, the view notes what the
         // step found in COUNT, of which the answer is as many as are cells of the table.
         ensures view { ReadsCount by self.now.cells result seat.old.me.0 seat.new.me.0 }
-        // The answer is the lesser of the number of cells and of a number that COUNT is in some
-        // table under the law in which a seat has the view before the call; where no walker is
-        // named, the view notes that number.
-        ensures moment { (n : ℕ) × (result ≡ min n self.now.cells)
-            × (by ≡ None → seat.new.me.0 ≡ loaded_plain Noted.Count n seat.old.me.0)
-            × WasSo (program_of B.places B.awaits B.left B.asks B.then) count_at n seat.old.me.0 }
         // Some cell is there.
         ensures some { 0 < result }
         // There are no more than the table has.
@@ -79,8 +69,6 @@ impl<B: Body> Laid<B> {
         ensures view { seat.new.me.0
             ≡ read_on t.0 (count_read (min result self.now.cells)) seat.old.me.0 }
         ensures some { steps.IsCount self.now.cells result }
-        ensures moment { WasSo (program_of B.places B.awaits B.left B.asks B.then) count_at result
-            seat.old.me.0 }
         ensures log { IsLogged (call.counts_by t.0) 0 0 result seat.old seat.new }
     {
         event_keeps_facts();
@@ -104,10 +92,6 @@ impl<B: Body> Laid<B> {
         ensures view { LoadsOwner by self.now.cells c.0 result seat.old.me.0 seat.new.me.0 }
         // An owner is one of the cells of the table.
         ensures task { (u : CellId) → result ≡ Some u → u.0 < self.now.cells }
-        // In some table under the law a seat has the view before the call while OWN of the cell is
-        // the word of this owner.
-        ensures moment { WasSo (program_of B.places B.awaits B.left B.asks B.then) (own_at c.0)
-            (owner_word (owner_number result)) seat.old.me.0 }
         // The seat's log is longer by one entry, whether a walker is named or not: OWN of the cell
         // was loaded, and the word of this owner found.
         ensures log { IsLogged (call.sees_owner c.0) 0 0 (owner_word (owner_number result))
@@ -129,8 +113,6 @@ impl<B: Body> Laid<B> {
         ensures view { seat.new.me.0
             ≡ read_on t.0 (λ w. owner_seen (owner_in result) w w.last) seat.old.me.0 }
         ensures owner { result ≤ self.now.cells }
-        ensures moment { WasSo (program_of B.places B.awaits B.left B.asks B.then) (own_at c.0)
-            result seat.old.me.0 }
         ensures log { IsLogged (call.sees_owner_by t.0 c.0) 0 0 result seat.old seat.new }
     {
         event_keeps_facts();
@@ -156,10 +138,6 @@ impl<B: Body> Laid<B> {
         ensures first { by ≡ None → FirstTold t.0 result seat.old.me.0 }
         // A cell that is waited for is one of those of the table.
         ensures wait { (c : ℕ) → wait_in result ≡ Some c → c < self.now.cells }
-        // In some table under the law a seat has the view before the call while PHASE of the cell
-        // is the word of this phase.
-        ensures moment { WasSo (program_of B.places B.awaits B.left B.asks B.then) (phase_at t.0)
-            (phase_word result) seat.old.me.0 }
         // The seat's log is longer by one entry, whether a walker is named or not: PHASE of the
         // cell was loaded, and the word of this phase found.
         ensures log { IsLogged (call.sees_phase t.0) 0 0 (phase_word result) seat.old seat.new }
@@ -179,8 +157,6 @@ impl<B: Body> Laid<B> {
         ensures view { seat.new.me.0
             ≡ read_on t.0 (wait_found u.0 (wait_in (phase_in result))) seat.old.me.0 }
         ensures phase { codes.IsPhaseWord self.now.cells result }
-        ensures moment { WasSo (program_of B.places B.awaits B.left B.asks B.then) (phase_at u.0)
-            result seat.old.me.0 }
         ensures log { IsLogged (call.sees_phase_by t.0 u.0) 0 0 result seat.old seat.new }
     {
         event_keeps_facts();
@@ -196,10 +172,6 @@ impl<B: Body> Laid<B> {
         ensures seat { IsSameSeat seat.old seat.new }
         // The walker has read OTHERS as this number.
         ensures view { seat.new.me.0 ≡ read_on by.0 (others_read result) seat.old.me.0 }
-        // In some table under the law a seat has the view before the call while OTHERS is this
-        // number.
-        ensures moment { WasSo (program_of B.places B.awaits B.left B.asks B.then) others_at result
-            seat.old.me.0 }
         // The seat's log is longer by one entry: OTHERS was loaded, and this number found.
         ensures log { IsLogged (call.sees_others_by by.0) 0 0 result seat.old seat.new }
     {
@@ -213,8 +185,6 @@ impl<B: Body> Laid<B> {
         ensures seat { IsSameSeat seat.old seat.new }
         ensures view { seat.new.me.0 ≡ read_on t.0 (others_read result) seat.old.me.0 }
         ensures few { result < 2 ^ 32 }
-        ensures moment { WasSo (program_of B.places B.awaits B.left B.asks B.then) others_at result
-            seat.old.me.0 }
         ensures log { IsLogged (call.sees_others_by t.0) 0 0 result seat.old seat.new }
     {
         event_keeps_facts();

@@ -9,6 +9,7 @@ use Rattle.tj_words.specs.declared.record.Rec.{Rec}
 use Rattle.tj_words.specs.declared.table.Laid.{Laid}
 use Rattle.tj_words.specs.declared.view.View.{View}
 use Rattle.tj_words.specs.SeatViews.TreeReads.{IsLater, MayLook, TreeShown}
+use Rattle.tj_detect.specs.ClimbLogs.{LogsClimb}
 
 module _ {B : Type 0} where
   -- the seat has seen the node of this task, and may look at the task's parent and at its jump
@@ -24,3 +25,4 @@ module _ {B : Type 0} where
     pub goes_on : GoesOn (TreeShown from.now) (MayLook laid from.now) (TreeShown to.now) (MayLook laid to.now)
     pub later : IsLater laid.cells from.now to.now
     pub loads : to.now.me.0.once_loads + 4 * old.now ≡ from.now.me.0.once_loads + 4 * new.now
+    pub log : LogsClimb old.now new.now from.now to.now

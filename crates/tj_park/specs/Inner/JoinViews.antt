@@ -48,6 +48,7 @@ module _ {B : Type 0} where
     pub rest : w.rest ≡ v.rest
     pub plain_loads : w.plain_loads ≡ v.plain_loads
     pub once_loads : w.once_loads ≡ v.once_loads
+    pub records : w.records ≡ v.records
 
   -- the push was made; or the head of q was found shut, so something has become of q, and of the push what was stored
   -- last into NEXT alone has changed
@@ -80,3 +81,4 @@ module _ {B : Type 0} where
     pub steps : w.steps ≤ v.steps + 2
     pub taken : HasTaken program t r w
     pub waited : WaitsFor r q
+    pub records : w.records ≡ r ∷ v.records

@@ -1,6 +1,6 @@
 -- A running task makes a promise, which it owns and holds from then on.
 use Rattle.tj_run.proofs.Prelude.{Bool, CellId, Goes, HasCell, HasName, Held, HeldSays, IsAsked, IsIn, IsRunning}
-use Rattle.tj_run.proofs.Prelude.{KnowsMore, Laid, List, Name, Point, PointsAsk, Program, Rec, RunsTask, SeatMe}
+use Rattle.tj_run.proofs.Prelude.{KnowsMore, Laid, Name, Point, PointsAsk, Program, Rec, RunsTask, SeatMe}
 use Rattle.tj_run.proofs.Prelude.{ThingsInRounds, View, [], ap, arith, in_either, in_left, in_right, inl, inr, length}
 use Rattle.tj_run.proofs.Prelude.{noted, refl, subst, sym, table_program, ℕ, ⊎_elim, ◌++◌, ◌+◌, ◌∙◌, ◌∷◌, ◌≡◌, ◌⊎◌}
 use Rattle.tj_body.specs.History.{after_new, next_name, to_promise}

@@ -7,8 +7,6 @@ use Rattle.tj_run.proofs.Prelude.{refl, saw_rest, subst, sym, table_program, tai
 use Rattle.tj_words.specs.declared.phase.Phase.{Phase}
 use Rattle.tj_words.specs.Calls.ExchangeViews.{missed}
 use Rattle.tj_words.specs.SeatViews.FullMeaning.{NamesFull}
-use Rattle.tj_words.specs.SeatViews.Moments.{WasSo}
-use Rattle.tj_words.specs.Words.Offsets.{live_at, stop_at}
 use Rattle.tj_words.specs.Words.Phases.{phase_word}
 use Rattle.tj_words.specs.SeatViews.Views.{saw_live, saw_stop}
 use Rattle.tj_run.specs.Leaving.{Found, FoundRest, FoundStop, HasRested, IsTold, stop_word}
@@ -69,6 +67,30 @@ module _ {B : Type 0} where
         rested_since old.0 mid.0 first.knows new
         (subst (HasRested mid.0) (λ i. (sym view i, sym same i)) (free_rested laid mid first.free))
 
+  -- the load of STOP said why
+  pub stop_found : (cause : Why) (n : ℕ) (v w : View B) → n ≡ stop_word cause → w ≡ saw_stop n v → FoundStop cause v w
+  stop_found cause n v w is loaded = record {
+    at = v;
+    since = ([], refl);
+    loaded = loaded ∙ ap (λ k. saw_stop k v) is;
+  }
+
+  -- the load of LIVE found 0
+  pub rest_found : (v w : View B) → w ≡ saw_rest v → FoundRest v w
+  rest_found v w loaded = record { at = v; since = ([], refl); loaded = loaded }
+
+  -- what was found since a later view was found since an earlier one
+  pub found_since : (how : Left) (u v w : View B) → IsTailOf u.notes v.notes → Found how v w → Found how u w
+  found_since left.Rested u v w k h =
+      record { at = h.at; since = tail_on u.notes v.notes h.at.notes k h.since; loaded = h.loaded }
+  found_since (left.Stopped cause) u v w k h =
+      record { at = h.at; since = tail_on u.notes v.notes h.at.notes k h.since; loaded = h.loaded }
+
+  pub if_found_since : (how : Option Left) (u v w : View B) → IsTailOf u.notes v.notes
+      → IfSome how (λ h. Found h v w) → IfSome how (λ h. Found h u w)
+  if_found_since None u v w k h = tt
+  if_found_since (Some how) u v w k h = found_since how u v w k h
+
   module _ (program : Bool → B → Program B) where
     -- a stop tells of each seat of the table the same
     pub stopped_since : (u v w : View B) (cause : Why) → v.about ≡ u.about → HasStopped program cause v w
@@ -98,50 +120,6 @@ module _ {B : Type 0} where
         by : (z : Why) → n ≡ stop_word z → IsTold program z v
         by why.Full e = full e
         by why.Memory e = tt
-
-    -- the load of STOP said why
-    pub stop_found : (cause : Why) (n : ℕ) (v w : View B) → n ≡ stop_word cause → WasSo program stop_at n v
-        → w ≡ saw_stop n v → FoundStop program cause v w
-    stop_found cause n v w is was loaded = record {
-      at = v;
-      since = ([], refl);
-      was = subst (λ k. WasSo program stop_at k v) is was;
-      loaded = loaded ∙ ap (λ k. saw_stop k v) is;
-    }
-
-    -- the load of LIVE found 0
-    pub rest_found : (n : ℕ) (v w : View B) → n ≡ 0 → WasSo program live_at n v → w ≡ saw_rest v → FoundRest program v w
-    rest_found n v w is was loaded = record {
-      at = v;
-      since = ([], refl);
-      was = subst (λ k. WasSo program live_at k v) is was;
-      loaded = loaded;
-    }
-
-    -- what was found since a later view was found since an earlier one
-    pub stop_since : (cause : Why) (u v w : View B) → IsTailOf u.notes v.notes → FoundStop program cause v w
-        → FoundStop program cause u w
-    stop_since cause u v w k h = record {
-      at = h.at;
-      since = tail_on u.notes v.notes h.at.notes k h.since;
-      was = h.was;
-      loaded = h.loaded;
-    }
-
-    pub found_since : (how : Left) (u v w : View B) → IsTailOf u.notes v.notes → Found program how v w
-        → Found program how u w
-    found_since left.Rested u v w k h = record {
-      at = h.at;
-      since = tail_on u.notes v.notes h.at.notes k h.since;
-      was = h.was;
-      loaded = h.loaded;
-    }
-    found_since (left.Stopped cause) u v w k h = stop_since cause u v w k h
-
-    pub if_found_since : (how : Option Left) (u v w : View B) → IsTailOf u.notes v.notes
-        → IfSome how (λ h. Found program h v w) → IfSome how (λ h. Found program h u w)
-    if_found_since None u v w k h = tt
-    if_found_since (Some how) u v w k h = found_since how u v w k h
 
     -- a worker that doesn't leave goes on
     pub turns_on : (laid : Laid B) (how : Option Left) → how ≡ None → (v : View B) (me : SeatMe B)

@@ -9,6 +9,7 @@ use Rattle.tj_run.proofs.Prelude.{sym, table_program, to_promise, to_task, true,
 use Rattle.tj_cells.specs.declared.seen.Seen.{Seen}
 use Rattle.tj_cells.specs.SeenValues.{SeesValue, cells_seen, saw_value}
 use Rattle.tj_words.specs.SeatViews.Views.{loaded_once}
+use Rattle.tj_words.proofs.SeatLoads.KnowsMoreOn.{keeps_load}
 use Rattle.tj_run.specs.Inner.Answers.{next_broken, with_lost, with_reference as record_with}
 use Rattle.tj_run.proofs.Asks.FoundValues.{answered, answered_cell, read_rounds, stands_later, tells_later, waited_cell}
 use Rattle.tj_run.proofs.Cells.KnownCells.{cells_known, ending_known, held_known, known_more, owed_known, owned_known}
@@ -80,18 +81,8 @@ module _ {B : Type 0} (program : Bool → B → Program B) (laid : Laid B) (r : 
     w = saw_value c e (cells_seen s) sees.born me.0
 
     more : KnowsMore me.0 w
-    more = record {
-      about = refl;
-      lot = refl;
-      born = sees.begins;
-      known = λ x i. in_right x (cells_seen s) me.0.known i;
-      wrote = λ x i. i;
-      filled = λ x i. inr i;
-      seen = λ x i. i;
-      closed = λ x i. i;
-      rested = λ z. z;
-      notes = ([], refl);
-    }
+    more = (keeps_load me.0 w sees.begins (λ x i. in_right x (cells_seen s) me.0.known i) (λ x i. inr i) (λ x i. i)
+        (λ z. z) (λ z. z) ([], refl)).more
 
     filled_on : (d : ℕ) (x : Entry) → HasSeen me.0.filled d x → HasSeen w.filled d x
     filled_on d x i = inr i

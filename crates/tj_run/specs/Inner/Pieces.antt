@@ -7,7 +7,7 @@ use Rattle.tj_base.specs.declared.value.Pay.{Pay}
 use Rattle.tj_base.specs.declared.value.Pay.TheVariants as pay
 use Rattle.tj_base.specs.declared.cause.Trouble.{Trouble}
 use Rattle.tj_base.specs.declared.cause.Trouble.TheVariants as trouble
-use Rattle.tj_body.specs.NameLaws.{Unhanded, no_promise, not_owned, hand_cells}
+use Rattle.tj_body.specs.NameLaws.{Unhanded, no_promise, not_owned}
 use Rattle.tj_words.specs.declared.record.Fill.{Fill}
 use Rattle.tj_words.specs.declared.record.Fill.TheVariants as fill
 use Rattle.tj_words.specs.declared.record.Held.{Held}

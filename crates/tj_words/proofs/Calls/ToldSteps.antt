@@ -1,10 +1,14 @@
 -- What a step tells of its seat is what the step call tells that it is.
-use Rattle.tj_words.proofs.Prelude.{Bool, Key, MayPutOnce, Once, Option, Program, PutsOnce, Rec, Rule, SeatMe}
-use Rattle.tj_words.proofs.Prelude.{State, StepCall, View, arith, get_elem?, none, place_of, some}
-use Rattle.tj_words.proofs.Prelude.{step, suc, told_by, word, ℕ, ◌%◌, ◌+◌, ◌-◌, ◌<◌, ◌^◌, ◌≡◌}
+use Rattle.tj_words.proofs.Prelude.{Bool, Key, MayPutOnce, Once, Option, Phase, Program, PutsOnce, PutsPhase, Rec}
+use Rattle.tj_words.proofs.Prelude.{Rule, SeatMe, State, StepCall, View, arith, get_elem?, none, phase_at, phase_in}
+use Rattle.tj_words.proofs.Prelude.{place_of, refl, some, step, subst, suc, sym, told_by, word, ℕ, ◌%◌, ◌+◌, ◌-◌, ◌<◌}
+use Rattle.tj_words.proofs.Prelude.{◌^◌, ◌≡◌}
 use Rattle.tj_log.specs.Runs.{left}
 use Rattle.tj_log.specs.declared.entry.Did.{Did}
+use Rattle.tj_log.specs.declared.entry.Did.TheVariants.{Store}
 use Rattle.tj_words.specs.CallLaws.CallRuns.{asked_by}
+use Rattle.tj_words.specs.CallLaws.StepCalls as call
+use Rattle.tj_words.specs.Calls.PhaseViews.{MayPutPhase}
 use Rattle.tj_words.specs.CallLaws.StepLogs.{IsTold, did_of}
 use Rattle.tj_words.specs.Words.Offsets.{words_for}
 use Rattle.tj_words.specs.Calls.DrawViews.{MayWrite, wrote_word}
@@ -37,6 +41,19 @@ told_step {B} {program} {key} {slots} {id} {m} {i} then call did a b does at ins
       plain = acts.2;
       slots = acts.3;
     }
+
+-- a store of PHASE of t tells what a store of this phase tells
+pub phase_told : {B : Type 0} {program : Bool → B → Program B} {key : Key B} {slots id : ℕ} {m : SeatMe B} {i : ℕ}
+    (then : State (Option (Rec B)) (View B) → SeatMe B → Type 0) (t w : ℕ) {p : Phase} → i ≡ phase_at t
+    → i < words_for key.cells → t < key.cells → phase_in w ≡ p → MayPutPhase program t p m
+    → ((s : State (Option (Rec B)) (View B)) → Rule program key s → get_elem? s.views id ≡ some m.0
+    → (m' : SeatMe B) → then s m' → PutsPhase t p m m')
+    → (s : State (Option (Rec B)) (View B)) → Rule program key s → get_elem? s.views id ≡ some m.0
+    → (m' : SeatMe B) → then s m' → IsTold program key Store (step slots i w 0 none) m (word s.words i) m'
+phase_told {program = program} {m = m} then t w at inside small is may puts =
+    told_step then (call.puts_phase t) Store w 0 refl at inside
+    (small, subst (λ q. MayPutPhase program t q m) (sym is) may)
+    (λ s r k m' h. (refl, subst (λ q. PutsPhase t q m m') (sym is) (puts s r k m' h)))
 
 -- what a counter is after one more or one less
 pub up_is : {n : ℕ} → n < 2 ^ 32 → (n + 1) % 2 ^ 64 ≡ suc n

@@ -1,36 +1,14 @@
 -- What the core state shows of a cell that is there: its name, its sort and what it waits for.
-use Rattle.tj_words.proofs.Prelude.{Answer, Bool, CellId, Contents, Custody, Does, Hand, IsCell, IsThere, Law, None}
-use Rattle.tj_words.proofs.Prelude.{Option, Phase, Program, Rec, Walk, Way, answer_stage, ap, arith, before, cond}
-use Rattle.tj_words.proofs.Prelude.{does_stage, drawn_in, false, fresh, hand_of, held_of, home_of, is_task_sort, name}
-use Rattle.tj_words.proofs.Prelude.{nat_eq, new_stage, phase_sort, reference_of, refl, sort_shown, stage, stage_there}
-use Rattle.tj_words.proofs.Prelude.{subst, sym, true, wait_in, way_by, way_if, way_of_wait, ℕ, ◌&&◌, ◌<◌, ◌∙◌, ◌≡◌, ◌≢◌}
-use Rattle.tj_events.specs.CoreState.{CellStage, CellState, is_task, running, wait_of, wait}
+use Rattle.tj_words.proofs.Prelude.{CellId, Contents, Custody, Hand, IsCell, IsThere, Law, None, Option, Phase, Program}
+use Rattle.tj_words.proofs.Prelude.{Rec, Walk, Way, ap, arith, before, drawn_in, hand_of, held_of, home_of}
+use Rattle.tj_words.proofs.Prelude.{is_task_sort, name, phase_sort, reference_of, sort_shown, stage, stage_there, subst}
+use Rattle.tj_words.proofs.Prelude.{sym, wait_in, way_by, way_if, way_of_wait, ℕ, ◌&&◌, ◌<◌, ◌∙◌, ◌≡◌, ◌≢◌}
+use Rattle.tj_events.specs.CoreState.{CellState, is_task, wait_of, wait}
 use Rattle.tj_words.proofs.Events.StepEvents.{core_of}
 use Rattle.tj_words.proofs.Events.ShownParts.{parts_of}
 use Rattle.tj_words.proofs.Holders.HeldTasks.{at_index}
 use Rattle.tj_words.proofs.Events.ShownCells.{stage_out, cell_there}
-use Rattle.tj_body.specs.declared.ask.Answer.TheVariants as answer
 use Rattle.tj_words.specs.declared.phase.Phase.TheVariants as phase
-use Rattle.tj_words.specs.declared.view.Does.TheVariants as does
-
--- a stage that is a task's, and no wait
-abbrev IsCalm : CellStage → Type 0
-IsCalm st = (is_task st ≡ true) × (wait_of st ≡ None)
-
-new_calm : (t : ℕ) → IsCalm (new_stage t)
-new_calm t = by (nat_eq t 0)
-  where
-    by : (b : Bool) → IsCalm (cond b running fresh)
-    by true = (refl, refl)
-    by false = (refl, refl)
-
-answer_calm : (t : ℕ) (a : Answer) → IsCalm (answer_stage t a)
-answer_calm t answer.Start = new_calm t
-answer_calm t a = (refl, refl)
-
-does_calm : (t : ℕ) (d : Does) → IsCalm (does_stage t d)
-does_calm t does.Fresh = new_calm t
-does_calm t d = (refl, refl)
 
 module _ {B : Type 0} where
   -- a cell shows that it is a task, or a promise, as its phase says, and what it waits for

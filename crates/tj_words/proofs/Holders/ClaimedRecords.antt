@@ -1,12 +1,11 @@
 -- What a seat knows of the stage of the point that the record tells which it has claimed.
-use Rattle.tj_words.proofs.Prelude.{HeldSays, IsCell, IsRecordIn, None, Point, Rec, Reference, Tells, TellsStage}
-use Rattle.tj_words.proofs.Prelude.{WaitsFor, inl, inr, reference, subst, to_task, ℕ, ⊎_elim, ◌≡◌, ◌≢◌, ◌⊎◌}
+use Rattle.tj_words.proofs.Prelude.{HeldSays, IsCell, None, Point, Rec, Reference, Tells, TellsStage, WaitsFor}
+use Rattle.tj_words.proofs.Prelude.{reference, subst, to_task, ℕ, ◌≡◌}
 use Rattle.std.specs.Prelude.{List}
 use Rattle.tj_words.specs.Calls.TakenRecords.{HasWaitedFor}
 use Rattle.tj_words.proofs.Meaning.Resting.{pairs_at}
 use Rattle.tj_body.specs.declared.ask.Answer.TheVariants as answer
 use Rattle.tj_body.specs.declared.point.PointStage.TheVariants as stage
-use Rattle.tj_words.specs.declared.phase.Phase.TheVariants as phase
 
 module _ {B : Type 0} (born : List Reference) (r : Rec B) (p : Point B) where
   module _ (tells : Tells born r p) (told : TellsStage born r.finish r.answer r.spare p)
@@ -28,10 +27,3 @@ module _ {B : Type 0} (born : List Reference) (r : Rec B) (p : Point B) where
           waits = at_place.1;
           is_cell = subst (λ d. IsCell born d (reference p w.0)) w.4 held.0;
         }
-
-  -- a record of a ready task is to be given Start, or it has waited for a cell of which something has become
-  pub ready_stage : (tag : ℕ → ℕ) → Tells born r p → TellsStage born r.finish r.answer r.spare p
-      → IsRecordIn tag phase.Ready r
-      → (p.stage ≡ stage.Answered answer.Start) ⊎ ((c : ℕ) × HasWaitedFor born r p c × (tag c ≢ 0))
-  ready_stage tag tells told h = ⊎_elim (λ q. inl (starts tells told h.0 q))
-      (λ q. inr (q.0, waited tells told h.0 q.0 q.1, q.2)) h.1

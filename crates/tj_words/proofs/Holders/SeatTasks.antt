@@ -5,7 +5,7 @@ use Rattle.tj_words.proofs.Prelude.{owned_by, owned_of, put, put_else, put_here,
 use Rattle.tj_words.proofs.Prelude.{some-ne-none, subst, suc, sym, zero, ℕ, ℕ_discrete, ◌∙◌, ◌∷◌, ◌≡◌, ◌≢◌}
 use Rattle.tj_words.proofs.Events.StepEvents.{IsHeldWith}
 use Rattle.tj_words.proofs.Holders.HeldTasks.{none_some, one_some, held_first, held_rest}
-use Rattle.tj_words.proofs.Holders.TaskPlaces.{custody, has_none, held_here}
+use Rattle.tj_words.proofs.Holders.TaskPlaces.{has_none, held_here}
 
 -- a column that is this at one index, and as it was elsewhere
 pub put_is : {A : Type 0} (f g : ℕ → A) (i : ℕ) (a : A) → g i ≡ a → ((j : ℕ) → j ≢ i → g j ≡ f j) → g ≡ put f i a
@@ -103,13 +103,6 @@ module _ {B : Type 0} where
 
     pub free_alone : (id t : ℕ) → (r.custody.holder t ≡ None) → IsAlone x.seats.tasks id t
     free_alone id t h j m n e = has_none r j t m e (λ q. none_some (r.custody.holder t) j h q)
-
-    -- what is found once a seat has let a task go
-    pub let_go_held : (id t : ℕ) (k : Custody B) (h : IsHeldWith x id t k)
-        → find_in (set x.seats.tasks id (let_go t h.0)) ≡ put (held_of x) t None
-    let_go_held id t k h =
-        find_put x.seats.tasks id t h.0 (let_go t h.0) h.1 (held_alone id t (custody r id t k h).mine)
-        (λ u n. let_go_else t u h.0 n) ∙ ap (put (held_of x) t) (let_go_here t h.0)
 
     -- a task of a seat has made as many things as what the seat has for it says, and owns what that says
     module _ (id t : ℕ) (k : Custody B) (h : IsHeldWith x id t k) where

@@ -15,10 +15,6 @@ read_or [] i a d e = absurd (some-ne-none a (sym e))
 read_or (x ∷ xs) zero a d e = some-injective x a e
 read_or (x ∷ xs) (suc i) a d e = read_or xs i a d e
 
--- two cells of one number are one
-pub cell_is : (c : CellId) (n : ℕ) → c.0 ≡ n → c ≡ cell n
-cell_is c n e = λ j. record { 0 = e j }
-
 -- an owner read from OWN
 pub owner_is : (o : Option CellId) (w : ℕ) → owner_number o ≡ owner_in w → o ≡ task_in w
 owner_is o w e = grind arith

@@ -1,12 +1,12 @@
 -- Loads of HEAD.
 use Rattle.tj_words.proofs.Prelude.{Allows, Bool, Key, Option, Program, Rec, Rule, SeatMe, Shut, State, View, [], ap}
-use Rattle.tj_words.proofs.Prelude.{arith, contents_of, dite, drawn_in, get_elem?, head_at, head_in, head_load, inr}
-use Rattle.tj_words.proofs.Prelude.{none, refl, shut_word, some, step, subst, word, ℕ, ℕ_discrete, ⊎_elim, ◌++◌, ◌<◌}
-use Rattle.tj_words.proofs.Prelude.{◌∷◌, ◌≡◌, ◌≢◌, ◌≤◌}
+use Rattle.tj_words.proofs.Prelude.{arith, at_map, contents_of, dite, drawn_in, get_elem?, head_at, head_in, head_load}
+use Rattle.tj_words.proofs.Prelude.{inr, none, refl, shut_word, some, step, subst, word, ℕ, ℕ_discrete, ⊎_elim, ◌++◌}
+use Rattle.tj_words.proofs.Prelude.{◌<◌, ◌∷◌, ◌≡◌, ◌≢◌, ◌≤◌}
 use Rattle.tj_words.proofs.Lemmas.{Learns, are_cells, back, knowing_of, knows_so, load_allowed}
 use Rattle.tj_words.proofs.SeatLoads.LoadSteps.{found_so}
 use Rattle.tj_words.proofs.SeatLoads.KnowLoads.{all_cons, one_of, shut_is, will_have, entry_so, same_entry}
-use Rattle.tj_words.proofs.Waiters.ChainFacts.{line_small, head_small}
+use Rattle.tj_words.proofs.Waiters.ChainFacts.{head_small, line_lacks, line_small}
 use Rattle.tj_words.specs.SeatViews.Views.{found_shut, found_chain}
 
 module _ {B : Type 0} (program : Bool → B → Program B) (key : Key B) where
@@ -62,6 +62,8 @@ module _ {B : Type 0} (program : Bool → B → Program B) (key : Key B) where
                 chain = chain;
                 is = law.chains.heads c is_open;
                 short = line_small law.chains key.cells drawn (omega arith) law.undrawn c;
+                room = λ e j. line_lacks law.chains key.cells drawn (omega arith) law.undrawn c id e
+                    (law.chains.to_push id v.pushes (at_map (λ (z : View B). z.pushes) s.views id v k) e j);
                 small = head_small law.chains key.cells drawn (omega arith) law.undrawn c is_open;
                 grown = λ f n z. ⊎_elim
                     (λ y. absurd (is_open (subst (λ d. head_in (word s.words (head_at d)) ≡ Shut) z y)))

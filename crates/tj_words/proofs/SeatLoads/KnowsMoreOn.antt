@@ -1,6 +1,7 @@
 -- What a seat knows over several steps.
-use Rattle.tj_words.proofs.Prelude.{List, View, [], ap, append_assoc, begins_self, begins_trans, refl, sym, ◌++◌, ◌∙◌}
-use Rattle.tj_words.specs.SeatViews.KnowsMore.{IsTailOf, KnowsMore, HasSameHand, HasSameCounts}
+use Rattle.tj_words.proofs.Prelude.{Begins, IsIdle, List, None, View, [], ap, append_assoc, begins_self, begins_trans}
+use Rattle.tj_words.proofs.Prelude.{refl, sym, true, ◌++◌, ◌∙◌, ◌≡◌}
+use Rattle.tj_words.specs.SeatViews.KnowsMore.{AreAmong, IsTailOf, KnowsMore, HasSameHand, HasSameCounts}
 
 pub tail_on : {A : Type 0} (xs ys zs : List A) → IsTailOf xs ys → IsTailOf ys zs → IsTailOf xs zs
 tail_on xs ys zs p q = (q.0 ++ p.0, q.1 ∙ (ap (λ l. q.0 ++ l) p.1 ∙ sym (append_assoc q.0 p.0 xs)))
@@ -43,3 +44,66 @@ module _ {B : Type 0} where
     cleared = q.cleared ∙ p.cleared;
     refused = q.refused ∙ p.refused;
   }
+
+  -- a seat that may be taken in still may, and knows what it knew
+  pub record Keeps (v w : View B) : Type 0 where
+    pub idle : IsIdle v → IsIdle w
+    pub more : KnowsMore v w
+
+  pub keeps_itself : (v : View B) → Keeps v v
+  keeps_itself v = record { idle = λ i. i; more = more_itself v }
+
+  pub keeps_on : (u v w : View B) → Keeps u v → Keeps v w → Keeps u w
+  keeps_on u v w p q = record { idle = λ i. q.idle (p.idle i); more = more_on u v w p.more q.more }
+
+  -- what a load leaves of the view v: no load changes these
+  abbrev pub as_loaded : View B → View B → View B
+  as_loaded v w = record w {
+    about = v.about;
+    lot = v.lot;
+    wrote = v.wrote;
+    closed = v.closed;
+    tasks = v.tasks;
+    tokens = v.tokens;
+    hand = v.hand;
+    dues = v.dues;
+    cleared = v.cleared;
+    pushes = v.pushes;
+    shuts = v.shuts;
+  }
+
+  -- after a load a seat knows what it knew
+  pub keeps_load : (v w : View B) → Begins v.born w.born → AreAmong v.known w.known → AreAmong v.filled w.filled
+      → AreAmong v.seen w.seen → (v.rested ≡ true → w.rested ≡ true) → (v.rest ≡ None → w.rest ≡ None)
+      → IsTailOf v.notes w.notes → Keeps v (as_loaded v w)
+  keeps_load v w born known filled seen rested rest notes = record {
+    idle = λ i. record {
+      tasks = i.tasks;
+      tokens = i.tokens;
+      hand = i.hand;
+      dues = i.dues;
+      cleared = i.cleared;
+      pushes = i.pushes;
+      shuts = i.shuts;
+      rest = rest i.rest;
+    };
+    more = record {
+      about = refl;
+      lot = refl;
+      born = born;
+      known = known;
+      wrote = λ x i. i;
+      filled = filled;
+      seen = seen;
+      closed = λ x i. i;
+      rested = rested;
+      notes = notes;
+    };
+  }
+
+  -- so it does after one of which it only notes
+  pub keeps_noted : (v w : View B) → (v.rested ≡ true → w.rested ≡ true) → (v.rest ≡ None → w.rest ≡ None)
+      → IsTailOf v.notes w.notes
+      → Keeps v (record (as_loaded v w) { born = v.born; known = v.known; filled = v.filled; seen = v.seen })
+  keeps_noted v w = keeps_load v (record w { born = v.born; known = v.known; filled = v.filled; seen = v.seen })
+      (begins_self v.born) (λ x i. i) (λ x i. i) (λ x i. i)

@@ -2,8 +2,8 @@
 -- tasks than there are cells, and that a cell on which nobody is parked has none.
 use Rattle.tj_words.proofs.Prelude.{AreApart, AreLinked, Chains, Does, Found, Head, IsIn, IsParkedOn, IsPush, List}
 use Rattle.tj_words.proofs.Prelude.{Option, Phase, Push, Rest, Shut, Some, Task, Unborn, [], ap, arith, cell, head_of}
-use Rattle.tj_words.proofs.Prelude.{head_word, inl, length, length-append, phase_of, refl, subst, sym, ℕ, ⊎_elim, ◌++◌}
-use Rattle.tj_words.proofs.Prelude.{◌<◌, ◌∙◌, ◌∷◌, ◌≡◌, ◌≢◌, ◌≤◌}
+use Rattle.tj_words.proofs.Prelude.{head_word, inl, length, length-append, phase_of, refl, subst, suc, sym, ℕ, ⊎_elim}
+use Rattle.tj_words.proofs.Prelude.{◌++◌, ◌<◌, ◌∙◌, ◌∷◌, ◌≡◌, ◌≢◌, ◌≤◌}
 use Rattle.tj_words.proofs.Waiters.ChainHeads.{one_cell}
 use Rattle.tj_words.proofs.Waiters.ChainLists.{no_some, few_apart}
 use Rattle.tj_words.specs.declared.phase.Phase.TheVariants as phase
@@ -90,6 +90,17 @@ module _ {tag : ℕ → ℕ} {head next : ℕ → Head} {phase : ℕ → Phase} 
 
     pub line_small : length (c.line p) ≤ cells
     line_small = few_apart cells (c.line p) (linked_apart next (c.line p) (c.linked p)) task_small
+
+    -- a chain lacks each task whose push is to come
+    pub line_lacks : (j : ℕ) (e : Push) → IsPush next phase c.pusher j e → suc (length (c.line p)) ≤ cells
+    line_lacks j e f = few_apart cells (e.task ∷ c.line p)
+        ((λ i. not_in_line p e.task j e.task f.mine i refl), linked_apart next (c.line p) (c.linked p))
+        (λ y. ⊎_elim (λ (z : y ≡ e.task). subst (λ k. k < cells) (sym z) task_drawn)
+        (λ (i : IsIn y (c.line p)). task_small y i))
+      where
+        task_drawn : e.task < cells
+        task_drawn = let l = parked_drawn phase drawn undrawn e.task e.cell (push_parked e.task j e f refl) in
+            omega arith
 
     -- so the head that isn't shut names a cell
     pub head_small : head p ≢ Shut → head_word (head p) ≤ cells

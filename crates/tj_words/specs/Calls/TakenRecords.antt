@@ -1,6 +1,6 @@
 -- The record of a task that a seat takes out of its slot: what the seat has for the task from then on, and what it
 -- knows of the record.
-use Rattle.std.specs.Prelude.{◌≡◌, ◌⊎◌, ℕ, ◌<◌, List, ◌++◌, length, Bool, None, Some}
+use Rattle.std.specs.Prelude.{◌≡◌, ◌⊎◌, ℕ, ◌<◌, List, ◌∷◌, ◌++◌, length, Bool, None, Some}
 use Rattle.tj_body.specs.History.{reference}
 use Rattle.tj_body.specs.Points.{IsIn, Begins}
 use Rattle.tj_body.specs.Programs.{Program}
@@ -34,13 +34,14 @@ module _ {B : Type 0} where
   }
 
   -- the view of a seat that has taken a record: it holds the task and knows the record's cells, what all cells are, and
-  -- what has become of some more
+  -- what has become of some more; and it says which record that was
   abbrev pub took_record : Rec B → List Reference → List Filled → View B → View B
   took_record r born more v = record v {
     tasks = hold (custody_of r) v.tasks;
     known = record_cells r ++ v.known;
     born = born;
     filled = more ++ v.filled;
+    records = r ∷ v.records;
   }
 
   module _ (born : List Reference) (r : Rec B) (p : Point B) where

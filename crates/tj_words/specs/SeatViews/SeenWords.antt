@@ -22,6 +22,7 @@ use Rattle.tj_words.specs.declared.view.About.{About}
 use Rattle.tj_words.specs.declared.view.Filled.{Filled}
 use Rattle.tj_words.specs.declared.view.Found.{Found}
 use Rattle.tj_words.specs.declared.view.Noted.TheVariants as note
+use Rattle.tj_words.specs.declared.view.Push.{Push}
 use Rattle.tj_words.specs.declared.view.Rest.{Rest}
 use Rattle.tj_words.specs.declared.view.SeenWord.{SeenWord}
 use Rattle.tj_words.specs.declared.view.View.{View}
@@ -166,12 +167,13 @@ module _ {B : Type 0} where
   abbrev pub FindsShut : (Bool → B → Program B) → ℕ → ℕ → View B → View B → Type 0
   FindsShut program cells c v w = FindsBecome program cells c (λ e born. found_shut c born e v) v w
 
-  -- the chain was found, of which each one found before is an end; it has at most as many tasks as there are cells, and
-  -- its head names one of these
+  -- the chain was found, of which each one found before is an end; it has at most as many tasks as there are cells, one
+  -- less where the seat has a push to come, and its head names one of these
   pub record FindsChain (cells c : ℕ) (h : Head) (v w : View B) : Type 0 where
     pub chain : List ℕ
     pub is : h ≡ head_of chain
     pub short : length chain ≤ cells
+    pub room : (e : Push) → IsIn e v.pushes → suc (length chain) ≤ cells
     pub small : head_word h ≤ cells
     pub grown : All (λ (f : Found). f.cell ≡ c → (more : List ℕ) × (chain ≡ more ++ f.chain)) v.found
     pub view : w ≡ found_chain c chain v

@@ -136,6 +136,7 @@ module _ {B : Type 0} where
     stored = [];
     told = [];
     notes = [];
+    records = [];
   }
 
   -- a view is cut in two: the second seat has a lot of 4, and knows what the first one knows, but for that one's notes

@@ -17,9 +17,6 @@ pub returns-in-Along-clause-walked : goal.returns-in-Along-clause-walked
 returns-in-Along-clause-walked g c =
     others_watch c.requires.may c.walk_along.ensures.view _ c.settlers_are_not_alone.ensures
 
-pub returns-in-Along-clause-others : goal.returns-in-Along-clause-others
-returns-in-Along-clause-others g c = λ e. c.walk_along.ensures.others
-
 pub others_up-requires-clause-runs : goal.others_up-requires-clause-runs
 others_up-requires-clause-runs g c κs within = let a = c.args in
     may_raise a.seat.now.me.0 a.t.0 a.q.0 a.way c.requires.may

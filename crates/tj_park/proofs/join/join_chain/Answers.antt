@@ -1,4 +1,4 @@
-use Rattle.std.proofs.Common.{arith, rules, ◌≡◌, ◌≢◌, ◌∙◌}
+use Rattle.std.proofs.Common.{rules, ◌≡◌, ◌≢◌, ◌∙◌}
 use Rattle.tj_park.proofs.Joining.{fewer, found_chains, found_shut_once, has_push, has_push_behind, joined}
 use Rattle.tj_park.proofs.Joining.{joining_first, joining_next}
 use Rattle.tj_words.specs.declared.head.Head.TheVariants as head
@@ -45,7 +45,6 @@ loop-t-preserved g c =
     let other : c.push-found.result ≢ c.loop-t.behind = search rules in
     let a = c.loop-t.invariant.seat in
     let b = c.put_next.ensures.seat in
-    let few = c.args.laid.now.few in
     let d = c.push-found.ensures.seat in
     record {
       seat = (d.0 ∙ (b.0 ∙ a.0), d.1 ∙ (b.1 ∙ a.1), d.2 ∙ (b.2 ∙ a.2));
@@ -53,8 +52,7 @@ loop-t-preserved g c =
           c.put_next.new.seat c.push-found.new.seat c.loop-t.invariant.log c.put_next.ensures.log
           c.push-found.ensures.log other;
       joins = joining_next c.loop-t.invariant.joins c.put_next.ensures.view opened c.push-found.result
-          c.push-found.new.seat.me.0 other c.push-found.ensures.shut c.push-found.ensures.other (omega arith)
-          c.push-found.ensures.moment;
+          c.push-found.new.seat.me.0 other c.push-found.ensures.shut c.push-found.ensures.other;
     }
 
 pub returns-then-eq-clause-pushes : goal.returns-then-eq-clause-pushes

@@ -4,6 +4,8 @@ use Rattle.tj_run.proofs.Waiting.WaitConditions.{wait_cell}
 use Rattle.tj_run.proofs.waits.block_at.Given.{Over}
 use Rattle.tj_run.proofs.waits.block_at.Goals as goal
 use Rattle.tj_run.proofs.waits.block_at.Goals.{After-at-h}
+use Rattle.tj_cells.proofs.CallLogs.{grows_on}
+use Rattle.tj_run.proofs.Seats.LogGrowth.{block_grows}
 
 -- the task is to wait for the cell at the place
 to_wait : (g : Over) (c : After-at-h g)
@@ -82,3 +84,8 @@ returns-clause-blocked g c = let y = c.way_to-way in let z = c.block-verdict in 
       }));
   slots = z.ensures.seat.2;
 }
+
+pub returns-clause-log : goal.returns-clause-log
+returns-clause-log g c = let y = c.way_to-way in let z = c.block-verdict in
+    grows_on c.args.seat.now y.new.seat z.new.seat y.ensures.log (block_grows y.new.seat z.new.seat
+    c.args.laid.now.cells c.cell-t.result.0 c.at-h.result.cell y.result z.result z.ensures.log)

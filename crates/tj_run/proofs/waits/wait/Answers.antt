@@ -4,6 +4,9 @@ use Rattle.tj_run.proofs.Waiting.BlockedTasks.{blocked_others, blocked_slot, com
 use Rattle.tj_run.proofs.Waiting.BlockedTasks.{may_be_parked, may_be_shelved}
 use Rattle.tj_run.proofs.Waiting.WaitConditions.{quiet_either}
 use Rattle.tj_run.proofs.waits.wait.Goals as goal
+use Rattle.tj_cells.proofs.CallLogs.{grows_by, grows_on}
+use Rattle.tj_run.proofs.Seats.LogGrowth.{park_grows, return_grows}
+use Rattle.std.proofs.Common.{[]}
 
 pub shelve-requires-clause-slot : goal.shelve-requires-clause-slot
 shelve-requires-clause-slot g c κs within = let x = c.block_at-way in
@@ -37,6 +40,8 @@ returns-in-Left g c = let x = c.block_at-way in record {
       c.park.new.seat.me (subst (λ (t : CellId). LeftTask c.args.laid.now.cells t.0 x.new.seat.me.0
       c.park.new.seat.me.0) c.cell-t.ensures c.in-Left.ensures.left) c.in-Left.ensures.left_slot;
   back = tt;
+  log = grows_on c.args.seat.now x.new.seat c.park.new.seat x.ensures.log (park_grows c.cell-t.result.0 x.result.0.0
+      x.result.1 x.new.seat c.park.new.seat c.in-Left.ensures.left_log);
 }
 
 pub returns-in-Back : goal.returns-in-Back
@@ -48,4 +53,11 @@ returns-in-Back g c = let x = c.block_at-way in let b = g.B.Body in record {
       b.then) c.args.laid.now.cells t.0 x.result.0.0 c.in-Back.rec x.new.seat.me.0 c.park.new.seat.me.0)
       c.cell-t.ensures c.in-Back.ensures.back)
       (c.in-Back.ensures.back_slot ∙ ap (λ (t : CellId). (t.0, None) ∷ rest x.new.seat.me.1) c.cell-t.ensures);
+  log = grows_on c.args.seat.now x.new.seat c.park.new.seat x.ensures.log (return_grows c.cell-t.result.0
+      x.result.0.0 x.result.1 x.new.seat c.park.new.seat c.in-Back.ensures.back_log);
 }
+
+pub returns-in-Alarm-clause-log : goal.returns-in-Alarm-clause-log
+returns-in-Alarm-clause-log g c = let x = c.block_at-way in
+    grows_on c.args.seat.now x.new.seat c.shelve.new.seat x.ensures.log
+    (grows_by x.new.seat c.shelve.new.seat (_ ∷ []) c.shelve.ensures.log.1)

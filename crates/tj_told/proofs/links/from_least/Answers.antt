@@ -1,4 +1,4 @@
-use Rattle.std.proofs.Common.{ℕ, arith, length, sym, subst, ap, true, false, ◌<◌, ◌+◌, ◌∙◌, ◌≡◌, rules}
+use Rattle.std.proofs.Common.{arith, length, sym, subst, ap, ◌<◌, ◌+◌, ◌∙◌, ◌≡◌, rules}
 use Rattle.std.proofs.Common.{is_lt}
 use Rattle.tj_told.proofs.LeastLinks.{IsLeastBefore, least_still, less_here, name_in, named_at, order, turned_least}
 use Rattle.tj_told.proofs.links.from_least.Goals as goal

@@ -1,4 +1,4 @@
-use Rattle.std.proofs.Common.{◌≡◌, ◌≤◌, ◌<◌, ℕ, length}
+use Rattle.std.proofs.Common.{◌≡◌, ◌≤◌, ◌<◌, length}
 use Rattle.tj_told.proofs.LeastLinks.{IsLeastBefore}
 use Rattle.tj_told.proofs.links.from_least.Given as goal
 

@@ -2,7 +2,13 @@ use Rattle.tj_told.proofs.Climbing.{grows_by, grows_on, name_where}
 use Rattle.tj_told.proofs.LoggedRounds.{turn_found}
 use Rattle.tj_told.proofs.Climbing.{looks_on, observes_on}
 use Rattle.tj_told.proofs.Observing.{after_owner, after_phase, cell_known, task_known}
+use Rattle.std.proofs.Common.{ap}
+use Rattle.tj_words.specs.Steps.StepEvents.{wait_in}
 use Rattle.tj_told.proofs.links.link_of.Goals as goal
+
+pub see_owner-requires-clause-cell : goal.see_owner-requires-clause-cell
+see_owner-requires-clause-cell g c κs within =
+    c.see_phase.ensures.wait c.in-Waiting.cell.0 (ap wait_in c.in-Waiting.is)
 
 pub returns-in_default : goal.returns-in_default
 returns-in_default g c = let p = c.see_phase in record {

@@ -7,19 +7,19 @@ use Rattle.std.proofs.Common.{[], ap, ◌∙◌}
 use Rattle.std.proofs.Crossing.{send}
 use Rattle.tj_body.specs.Programs.{program_of}
 use Rattle.tj_words.specs.contracts.view.View as view
-use Rattle.tj_run.proofs.Seats.ThreadSends.{laid_sync, slot_send, u32_send}
+use Rattle.tj_run.proofs.Seats.ThreadSends.{laid_sync, seven_send, slot_send}
 use Rattle.tj_told.proofs.telling.Telling.TheSendSync as telling
 use Rattle.tj_told.proofs.LoggedRounds.{seen_taken}
-use Rattle.tj_told.proofs.TakenSeats.{leaves_taken, six_send}
+use Rattle.tj_told.proofs.TakenSeats.{bell_sync, leaves_taken, looks_send}
 use Rattle.tj_told.proofs.run.work_told.Goals as goal
 
 pub join-watched-requires-send-F : goal.join-watched-requires-send-F
 join-watched-requires-send-F g c κs within =
     let r = c.requires.crosses.0 in let b = c.requires.crosses.2 in let t = c.requires.crosses.4 in
-    let s = param_send 1 _ (arg_send ty_ptr no _ (six_send [] _ _ _ _ _ _ (shr_send (named 0) _ _ r) send
+    let s = param_send 1 _ (arg_send ty_ptr no _ (seven_send [] _ _ _ _ _ _ _ (shr_send (named 0) _ _ r) send
     (shr_send (named 1) _ _ (laid_sync (param 0 g.row.B) g.B.Body b))
-    (seat.the_send _ (view.the_row (param 0 g.row.B)) (slot_send (param 0 g.row.B) b)) u32_send
-    (telling.the_send _ t))) in
+    (seat.the_send _ (view.the_row (param 0 g.row.B)) (slot_send (param 0 g.row.B) b)) looks_send
+    (shr_send (named 3) _ _ bell_sync) (telling.the_send _ t))) in
     record { owned = s.owned; leaving = s.leaving }
 
 pub returns-clause-left : goal.returns-clause-left

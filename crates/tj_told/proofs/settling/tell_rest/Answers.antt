@@ -1,11 +1,11 @@
-use Rattle.std.proofs.Common.{List, ◌≡◌, ◌<◌, ◌≤◌, get_or, length, refl, subst}
+use Rattle.std.proofs.Common.{List, ◌≡◌, ◌<◌, ◌≤◌, get_or, length, subst, inl}
 use Rattle.tj_mean.specs.declared.outcome.Link.{Link}
 use Rattle.tj_told.proofs.Hearings.{all_so_far, in_take, item_in, on_no_stop, only_so_far}
 use Rattle.tj_told.proofs.settling.tell_rest.Goals as goal
 
 pub loop-cycle-init : goal.loop-cycle-init
 loop-cycle-init g c = record {
-  only = c.requires.among;
+  only = λ d i. inl i;
   all = λ d i. absurd i;
   hears = λ s h. h;
 }
@@ -17,16 +17,14 @@ loop-cycle-preserved g c =
     let later = subst (λ (z : List (List Link)). l.cycle-index < length z) e c.loop-cycle-test.true in
     let is = subst (λ (z : List (List Link)). x ≡ get_or z l.cycle-index x) e c.cycle-item.is in
     let t = c.in_ok-tell_new in record {
-      only = only_so_far cs l.telling.cycles c.tell_new.new.self.cycles x (item_in cs l.cycle-index x later is)
+      only = only_so_far c.args.telling.now.cycles cs l.telling.cycles c.tell_new.new.self.cycles x (item_in cs l.cycle-index x later is)
           t.ensures.adds i.only;
       all = all_so_far cs l.telling.cycles c.tell_new.new.self.cycles l.cycle-index x later is t.ensures.adds i.all;
       hears = λ s h. c.tell_new.ensures.goes s (i.hears s h) (on_no_stop c.tell_new.result t.field-0 t.was c.in-On.is);
     }
 
-pub returns-clause-told : goal.returns-clause-told
-returns-clause-told g c = let l = c.loop-cycle in let cs = c.args.cycles.now in record {
-  only = l.invariant.only;
-  all = λ d i. l.invariant.all d (in_take cs l.cycle-index d
-      (subst (λ (z : List (List Link)). length z ≤ l.cycle-index) c.items-cycle-items.ensures
-      c.loop-cycle-test.false) i);
-}
+pub returns-clause-all : goal.returns-clause-all
+returns-clause-all g c d i = let l = c.loop-cycle in let cs = c.args.cycles.now in
+    l.invariant.all d (in_take cs l.cycle-index d
+    (subst (λ (z : List (List Link)). length z ≤ l.cycle-index) c.items-cycle-items.ensures
+    c.loop-cycle-test.false) i)

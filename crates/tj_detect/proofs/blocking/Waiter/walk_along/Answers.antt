@@ -1,7 +1,6 @@
-use Rattle.tj_detect.proofs.Prelude.{Skipped, Way, ap, arith, inr, others_read, published, refl}
+use Rattle.tj_detect.proofs.Prelude.{Way, ap, arith, inr, others_read, refl}
 use Rattle.tj_detect.proofs.Prelude.{start_walk, subst, sym, ◌<◌, ◌∙◌}
 use Rattle.tj_words.specs.Steps.WalkSteps.{MayWait}
-use Rattle.tj_detect.proofs.Skips.{loads_others}
 use Rattle.tj_detect.proofs.WalkBlocks.{may_publish, at_others, at_count, others_on, others_walk, skips, blocks}
 use Rattle.tj_events.specs.declared.walk.Way.TheVariants.{Along}
 use Rattle.tj_detect.proofs.BlockSteps.{along_steps, block_made}
@@ -54,23 +53,6 @@ returns-clause-view g c =
     c.others-others.new.seat.me.0 c.others-others.ensures.view c.requires.along)
     c.walk.result c.args.steps.now c.tick.new.self c.walk.new.steps c.walk.new.seat.me.0 (omega (arith, x, y))
     (omega arith) c.walk.ensures.comes
-
-pub returns-then-others-eq0-clause-others : goal.returns-then-others-eq0-clause-others
-returns-then-others-eq0-clause-others g c =
-    let a = c.args.self.now in
-    loads_others Skipped a.t.0 a.q.0 c.others-others.result c.args.seat.now.me.0 c.put_wait.new.seat.me.0
-    (ap (λ z. z.0) c.put_wait.ensures.puts
-    ∙ ap (λ y. published a.t.0 a.q.0 y c.args.seat.now.me.0) c.requires.along)
-    c.others-others.ensures.moment ((λ e. c.if-others-eq0.true), (λ e. refl))
-
-pub returns-clause-others : goal.returns-clause-others
-returns-clause-others g c =
-    let a = c.args.self.now in
-    loads_others c.walk.result a.t.0 a.q.0 c.others-others.result c.args.seat.now.me.0 c.put_wait.new.seat.me.0
-    (ap (λ z. z.0) c.put_wait.ensures.puts
-    ∙ ap (λ y. published a.t.0 a.q.0 y c.args.seat.now.me.0) c.requires.along)
-    c.others-others.ensures.moment
-    ((λ e. absurd (c.walk.ensures.comes.walked e)), (λ e. absurd (c.if-others-eq0.false e)))
 
 pub returns-then-others-eq0-clause-seat : goal.returns-then-others-eq0-clause-seat
 returns-then-others-eq0-clause-seat g c =

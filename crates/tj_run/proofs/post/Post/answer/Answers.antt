@@ -5,6 +5,7 @@ use Rattle.tj_run.specs.declared.next.Wanted.{Wanted}
 use Rattle.tj_body.specs.declared.ask.Ask.TheVariants as ask
 use Rattle.tj_run.proofs.Asks.PureAsks.{fail_goes}
 use Rattle.tj_run.proofs.post.Post.answer.Goals as goal
+use Rattle.tj_run.proofs.Seats.LogGrowth.{still}
 
 -- what is asked at a place is asked of what is wanted there
 asks_wanted : {B : Type 0} (program : Program B) (v : View B) (r : Rec B) (to : Bool → ℕ → Ask B) (place : ℕ)
@@ -63,3 +64,12 @@ join-requires-in-JoinOr-clause-asked g c κs within =
     asks_wanted program v r join_of c.in-JoinOr.t true c.of-in-JoinOr.result c.of-in-JoinOr.ensures.place
     c.of-in-JoinOr.ensures.spare
     (subst (IsAsked program v r) c.in-JoinOr.is c.requires.asked)
+
+pub returns-in-Emit-clause-log : goal.returns-in-Emit-clause-log
+returns-in-Emit-clause-log g c = still c.args.self.now.seat
+
+pub returns-in-End-clause-log : goal.returns-in-End-clause-log
+returns-in-End-clause-log g c = still c.args.self.now.seat
+
+pub returns-in-Fail-clause-log : goal.returns-in-Fail-clause-log
+returns-in-Fail-clause-log g c = still c.args.self.now.seat

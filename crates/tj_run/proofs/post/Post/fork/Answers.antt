@@ -14,6 +14,8 @@ use Rattle.tj_run.proofs.post.Post.fork.Given.{Over}
 use Rattle.tj_run.proofs.post.Post.fork.Goals as goal
 use Rattle.tj_run.proofs.post.Post.fork.Goals.{After-as_slice-3, After-hand_each, After-names_and_cells, In_ok-c}
 use Rattle.tj_run.proofs.post.Post.fork.Goals.{In_ok-left}
+use Rattle.tj_cells.proofs.CallLogs.{grows_by, grows_on}
+use Rattle.tj_run.proofs.Seats.LogGrowth.{refused_grows, still, task_grows}
 
 -- the program that runs
 abbrev program : (g : Over) → Bool → g.row.B.Denot → Program g.row.B.Denot
@@ -191,3 +193,40 @@ fork_bare-requires-clause-asked g c κs within = let b = g.B.Body in
 pub note_child-requires-clause-owns : goal.note_child-requires-clause-owns
 note_child-requires-clause-owns g c κs within =
     owns_some c.args.laid.now c.args.rec.now c.args.self.now.seat.me c.requires.runs
+
+pub returns-in_err-given-clause-log : goal.returns-in_err-given-clause-log
+returns-in_err-given-clause-log g c = still c.args.self.now.seat
+
+pub returns-in_err-left-clause-log : goal.returns-in_err-left-clause-log
+returns-in_err-left-clause-log g c = still c.args.self.now.seat
+
+pub returns-in-Err-clause-log : goal.returns-in-Err-clause-log
+returns-in-Err-clause-log g c = still c.args.self.now.seat
+
+pub returns-in_err-passed-clause-log : goal.returns-in_err-passed-clause-log
+returns-in_err-passed-clause-log g c = still c.args.self.now.seat
+
+pub returns-in_err-promises-clause-log : goal.returns-in_err-promises-clause-log
+returns-in_err-promises-clause-log g c = still c.args.self.now.seat
+
+pub returns-in_err-c-clause-log : goal.returns-in_err-c-clause-log
+returns-in_err-c-clause-log g c = refused_grows c.args.self.now.seat c.birth.new.seat _ c.cell-t.result.0 sort.Task
+    c.in_err-c.ensures.log_full
+
+pub returns-in_err-child-clause-log : goal.returns-in_err-child-clause-log
+returns-in_err-child-clause-log g c = grows_on c.args.self.now.seat c.birth.new.seat c.hand_each.new.seat
+    (task_grows c.args.self.now.seat c.birth.new.seat _ _ _ c.in_ok-c.ensures.log_made) c.hand_each.ensures.log
+
+pub returns-in_err-release-clause-log : goal.returns-in_err-release-clause-log
+returns-in_err-release-clause-log g c = grows_on c.args.self.now.seat c.hand_each.new.seat c.release.new.seat
+    (grows_on c.args.self.now.seat c.birth.new.seat c.hand_each.new.seat
+    (task_grows c.args.self.now.seat c.birth.new.seat _ _ _ c.in_ok-c.ensures.log_made) c.hand_each.ensures.log)
+    (grows_by c.hand_each.new.seat c.release.new.seat (_ ∷ _ ∷ [])
+    (c.release.ensures.log.1, c.release.ensures.log.2))
+
+pub returns-clause-log : goal.returns-clause-log
+returns-clause-log g c = grows_on c.args.self.now.seat c.hand_each.new.seat c.release.new.seat
+    (grows_on c.args.self.now.seat c.birth.new.seat c.hand_each.new.seat
+    (task_grows c.args.self.now.seat c.birth.new.seat _ _ _ c.in_ok-c.ensures.log_made) c.hand_each.ensures.log)
+    (grows_by c.hand_each.new.seat c.release.new.seat (_ ∷ _ ∷ [])
+    (c.release.ensures.log.1, c.release.ensures.log.2))

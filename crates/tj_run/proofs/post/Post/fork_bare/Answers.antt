@@ -1,5 +1,5 @@
 use Rattle.tj_run.proofs.Prelude.{Bool, CellId, IsMade, Program, Why, [], held_at, map, program_of, refl, subst}
-use Rattle.tj_run.proofs.Prelude.{◌∙◌, ◌≡◌}
+use Rattle.tj_run.proofs.Prelude.{◌∙◌, ◌∷◌, ◌≡◌}
 use Rattle.tj_base.specs.declared.cell.Sort.TheVariants as sort
 use Rattle.tj_run.specs.declared.why.Why.TheVariants as why
 use Rattle.tj_run.proofs.Children.ForkCalls.{Forking, HasGiven, forks_birth, forks_goes, forks_known, forks_release}
@@ -8,6 +8,8 @@ use Rattle.tj_run.proofs.Children.ForkCalls.{released_lacks}
 use Rattle.tj_run.proofs.post.Post.fork_bare.Given.{Over}
 use Rattle.tj_run.proofs.post.Post.fork_bare.Goals as goal
 use Rattle.tj_run.proofs.post.Post.fork_bare.Goals.{After-names_and_cells, In_ok-c}
+use Rattle.tj_cells.proofs.CallLogs.{grows_by, grows_on}
+use Rattle.tj_run.proofs.Seats.LogGrowth.{refused_grows, task_grows}
 
 -- the program that runs
 abbrev program : (g : Over) → Bool → g.row.B.Denot → Program g.row.B.Denot
@@ -108,3 +110,22 @@ returns-clause-goes g c = let at = goal.at.returns-clause-goes g c in
     forks_goes (given g at.In_ok-c (forking g at.After-names_and_cells)) c.release.new.seat.me
     c.birth.new.seat.me.1 c.release.ensures.me c.in_ok-c.ensures.slot c.note_made.result c.note_made.new.rec
     c.note_made.ensures.runs c.note_made.ensures.rec
+
+pub returns-in_err-c-clause-log : goal.returns-in_err-c-clause-log
+returns-in_err-c-clause-log g c = refused_grows c.args.self.now.seat c.birth.new.seat _ c.cell-t.result.0 sort.Task
+    c.in_err-c.ensures.log_full
+
+pub returns-in_err-child-clause-log : goal.returns-in_err-child-clause-log
+returns-in_err-child-clause-log g c = task_grows c.args.self.now.seat c.birth.new.seat _ _ _ c.in_ok-c.ensures.log_made
+
+pub returns-in_err-release-clause-log : goal.returns-in_err-release-clause-log
+returns-in_err-release-clause-log g c = grows_on c.args.self.now.seat c.birth.new.seat c.release.new.seat
+    (task_grows c.args.self.now.seat c.birth.new.seat _ _ _ c.in_ok-c.ensures.log_made)
+    (grows_by c.birth.new.seat c.release.new.seat (_ ∷ _ ∷ [])
+    (c.release.ensures.log.1, c.release.ensures.log.2))
+
+pub returns-clause-log : goal.returns-clause-log
+returns-clause-log g c = grows_on c.args.self.now.seat c.birth.new.seat c.release.new.seat
+    (task_grows c.args.self.now.seat c.birth.new.seat _ _ _ c.in_ok-c.ensures.log_made)
+    (grows_by c.birth.new.seat c.release.new.seat (_ ∷ _ ∷ [])
+    (c.release.ensures.log.1, c.release.ensures.log.2))

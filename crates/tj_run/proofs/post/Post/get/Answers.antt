@@ -5,6 +5,7 @@ use Rattle.tj_words.specs.declared.record.Finish.TheVariants as finish
 use Rattle.tj_words.specs.declared.record.Hurt.TheVariants as hurt
 use Rattle.tj_run.specs.declared.next.Next.TheVariants as next
 use Rattle.tj_run.proofs.post.Post.get.Goals as goal
+use Rattle.tj_run.proofs.Seats.LogGrowth.{still}
 
 pub look-requires-clause-waiting : goal.look-requires-clause-waiting
 look-requires-clause-waiting g c κs within = let b = g.B.Body in let l = c.args.laid.now in let r = c.args.rec.now in
@@ -22,3 +23,6 @@ returns-in-Task-clause-goes g c = let b = g.B.Body in let l = c.args.laid.now in
     c.requires.asked.rooted) r
     c.args.at.place c.args.at.spare c.requires.asked
     (ap (λ (z : Held). z.sort) (sym c.at.ensures) ∙ c.in-Task.is))
+
+pub returns-in-Task-clause-log : goal.returns-in-Task-clause-log
+returns-in-Task-clause-log g c = still c.args.self.now.seat

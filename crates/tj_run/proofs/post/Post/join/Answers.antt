@@ -8,6 +8,8 @@ use Rattle.tj_words.specs.declared.record.Finish.TheVariants as finish
 use Rattle.tj_words.specs.declared.record.Hurt.TheVariants as hurt
 use Rattle.tj_run.specs.declared.next.Next.TheVariants as next
 use Rattle.tj_run.proofs.post.Post.join.Goals as goal
+use Rattle.tj_cells.proofs.CallLogs.{grows_on}
+use Rattle.tj_run.proofs.Seats.LogGrowth.{still}
 
 pub returns-in-Promise-clause-goes : goal.returns-in-Promise-clause-goes
 returns-in-Promise-clause-goes g c =
@@ -109,3 +111,10 @@ returns-in-Along-clause-goes g c =
     c.requires.runs a
     c.look-in-Along.result c.look-in-Along.new.rec c.look-in-Along.new.self.seat.me
     c.look-in-Along.ensures.goes
+
+pub returns-in-Promise-clause-log : goal.returns-in-Promise-clause-log
+returns-in-Promise-clause-log g c = still c.args.self.now.seat
+
+pub returns-in-Along-clause-log : goal.returns-in-Along-clause-log
+returns-in-Along-clause-log g c = grows_on c.args.self.now.seat c.way_to.new.seat c.look-in-Along.new.self.seat
+    c.way_to.ensures.log c.look-in-Along.ensures.log

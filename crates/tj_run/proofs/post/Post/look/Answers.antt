@@ -3,6 +3,7 @@ use Rattle.tj_run.proofs.Waiting.LookedCells.{broken_seen, look_broken, look_in_
 use Rattle.tj_run.proofs.Waiting.LookedCells.{look_task, look_there, number_seen, place_held, promise_seen, runs_then}
 use Rattle.tj_run.proofs.Waiting.LookedCells.{task_seen}
 use Rattle.tj_run.proofs.post.Post.look.Goals as goal
+use Rattle.tj_run.proofs.Seats.LogGrowth.{value_grows}
 
 pub at-requires : goal.at-requires
 at-requires g c =
@@ -67,3 +68,23 @@ returns-in-Broken-clause-goes g c =
     c.at.ensures c.value.new.seat.me c.value.ensures.seat.2
     (c.points_in_rounds.ensures.read l.strict l.root.value c.requires.waiting.rooted) c.find_broken.result
     c.find_broken.new.rec c.find_broken.ensures.next c.find_broken.ensures.rec (c.in-Broken.ensures.value broken_seen)
+
+pub returns-in-NotYet-clause-log : goal.returns-in-NotYet-clause-log
+returns-in-NotYet-clause-log g c = value_grows c.args.self.now.seat c.value.new.seat c.value.result _
+    c.value.ensures.log_not_yet c.value.ensures.log_value
+
+pub returns-in-Num-clause-log : goal.returns-in-Num-clause-log
+returns-in-Num-clause-log g c = value_grows c.args.self.now.seat c.value.new.seat c.value.result _
+    c.value.ensures.log_not_yet c.value.ensures.log_value
+
+pub returns-in-Promise-clause-log : goal.returns-in-Promise-clause-log
+returns-in-Promise-clause-log g c = value_grows c.args.self.now.seat c.value.new.seat c.value.result _
+    c.value.ensures.log_not_yet c.value.ensures.log_value
+
+pub returns-in-Task-clause-log : goal.returns-in-Task-clause-log
+returns-in-Task-clause-log g c = value_grows c.args.self.now.seat c.value.new.seat c.value.result _
+    c.value.ensures.log_not_yet c.value.ensures.log_value
+
+pub returns-in-Broken-clause-log : goal.returns-in-Broken-clause-log
+returns-in-Broken-clause-log g c = value_grows c.args.self.now.seat c.value.new.seat c.value.result _
+    c.value.ensures.log_not_yet c.value.ensures.log_value

@@ -2,6 +2,8 @@ use Rattle.tj_run.proofs.Prelude.{program_of}
 use Rattle.tj_run.proofs.Asks.MadePromises.{may_make_promise, promise_made}
 use Rattle.tj_run.proofs.Seats.RunningTasks.{owns_some}
 use Rattle.tj_run.proofs.post.Post.make_promise.Goals as goal
+use Rattle.tj_base.specs.declared.cell.Sort.TheVariants as sort
+use Rattle.tj_run.proofs.Seats.LogGrowth.{promise_grows, refused_grows}
 
 pub make-requires-clause-may : goal.make-requires-clause-may
 make-requires-clause-may g c κs within = let l = c.args.laid.now in let a = c.requires.asked in
@@ -23,3 +25,16 @@ returns-clause-goes g c = let l = c.args.laid.now in let a = c.requires.asked in
     c.cell-t.result c.in_ok-c.c c.make.new.seat.me c.cell-t.ensures c.in_ok-c.ensures.made c.make.ensures.seat.2
     c.hold.new.self c.own.new.self c.count_made.new.self c.set_answer.new.self c.places-place.result
     c.places-place.ensures c.in_ok-hold.ensures.ok c.in_ok-own.ensures.ok c.count_made.ensures c.set_answer.ensures
+
+pub returns-in_err-c-clause-log : goal.returns-in_err-c-clause-log
+returns-in_err-c-clause-log g c = refused_grows c.args.self.now.seat c.make.new.seat _ c.cell-t.result.0 sort.Promise
+    c.in_err-c.ensures.log_full
+
+pub returns-in_err-hold-clause-log : goal.returns-in_err-hold-clause-log
+returns-in_err-hold-clause-log g c = promise_grows c.args.self.now.seat c.make.new.seat _ _ _ c.in_ok-c.ensures.log_made
+
+pub returns-in_err-own-clause-log : goal.returns-in_err-own-clause-log
+returns-in_err-own-clause-log g c = promise_grows c.args.self.now.seat c.make.new.seat _ _ _ c.in_ok-c.ensures.log_made
+
+pub returns-clause-log : goal.returns-clause-log
+returns-clause-log g c = promise_grows c.args.self.now.seat c.make.new.seat _ _ _ c.in_ok-c.ensures.log_made

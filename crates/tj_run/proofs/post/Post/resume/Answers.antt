@@ -2,6 +2,7 @@ use Rattle.tj_run.proofs.Prelude.{IfOk, program_of, refl, subst, sym, table_prog
 use Rattle.tj_run.proofs.Waiting.ResumedTasks.{goes_from_start, has_answers, is_place, waits_again}
 use Rattle.tj_run.specs.Inner.Going.{IsCauseOfWait}
 use Rattle.tj_run.proofs.post.Post.resume.Goals as goal
+use Rattle.tj_run.proofs.Seats.LogGrowth.{still}
 
 pub look-requires-clause-waiting : goal.look-requires-clause-waiting
 look-requires-clause-waiting g c κs within =
@@ -29,6 +30,7 @@ pub returns-in_default : goal.returns-in_default
 returns-in_default g c =
     let b = g.B.Body in let l = c.args.laid.now in record {
       stays = ((refl, refl), tt);
+      log = still c.args.self.now.seat;
       goes = goes_from_start (program_of b.places b.awaits b.left b.asks b.then) l c.args.rec.now
           c.args.self.now.seat.me
           c.requires.back.runs c.requires.back.known c.requires.back.unfinished c.requires.back.rooted

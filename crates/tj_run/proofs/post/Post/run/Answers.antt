@@ -2,6 +2,9 @@ use Rattle.tj_run.proofs.Prelude.{ComesBack, IfSome, program_of, subst, ◌∙�
 use Rattle.tj_run.proofs.Runs.TaskReturns.{lack_on, lefts_on}
 use Rattle.tj_run.proofs.Seats.WorkersSteps.{back_here, back_on, lacks_on, left_on}
 use Rattle.tj_run.proofs.post.Post.run.Goals as goal
+use Rattle.tj_cells.proofs.CallLogs.{grows_on}
+use Rattle.tj_run.proofs.Seats.LogGrowth.{still}
+use Rattle.tj_run.proofs.Prelude.{refl}
 
 pub returns-in_err-run_on-clause-stays : goal.returns-in_err-run_on-clause-stays
 returns-in_err-run_on-clause-stays g c = (
@@ -29,6 +32,9 @@ loop-i-preserved g c =
       back = back_on program l r c.args.self.now.seat.me.0 v loop.invariant.back.knows me
           (back_on program l r v w done.ensures.goes.knows me
           (subst (λ o. IfSome o (λ r. ComesBack program l r w me)) c.in-Some-wait.is c.wait.ensures.back));
+      log = grows_on c.args.self.now.seat c.run_on.new.self.seat c.wait.new.seat
+          (grows_on c.args.self.now.seat c.loop-i.self.seat c.run_on.new.self.seat
+          c.loop-i.invariant.log c.run_on.ensures.log) c.wait.ensures.log;
     }
 
 pub returns-in-Ends-clause-stays : goal.returns-in-Ends-clause-stays
@@ -53,3 +59,25 @@ pub run_on-requires-clause-back : goal.run_on-requires-clause-back
 run_on-requires-clause-back g c κs within = let b = g.B.Body in let i = c.loop-i in
     back_here (program_of b.places b.awaits b.left b.asks b.then) c.args.laid.now i.rec c.args.self.now.seat.me.0
     i.self.seat.me i.invariant.back
+
+pub loop-i-init : goal.loop-i-init
+loop-i-init g c = record {
+  table = refl;
+  limit = refl;
+  back = c.requires.back;
+  log = still c.args.self.now.seat;
+}
+
+pub returns-in_err-run_on-clause-log : goal.returns-in_err-run_on-clause-log
+returns-in_err-run_on-clause-log g c = grows_on c.args.self.now.seat c.loop-i.self.seat c.run_on.new.self.seat
+    c.loop-i.invariant.log c.run_on.ensures.log
+
+pub returns-in-None-wait-clause-log : goal.returns-in-None-wait-clause-log
+returns-in-None-wait-clause-log g c = grows_on c.args.self.now.seat c.run_on.new.self.seat c.wait.new.seat
+    (grows_on c.args.self.now.seat c.loop-i.self.seat c.run_on.new.self.seat
+    c.loop-i.invariant.log c.run_on.ensures.log) c.wait.ensures.log
+
+pub returns-in-Ends-clause-log : goal.returns-in-Ends-clause-log
+returns-in-Ends-clause-log g c = grows_on c.args.self.now.seat c.run_on.new.self.seat c.end.new.self.seat
+    (grows_on c.args.self.now.seat c.loop-i.self.seat c.run_on.new.self.seat
+    c.loop-i.invariant.log c.run_on.ensures.log) c.end.ensures.log

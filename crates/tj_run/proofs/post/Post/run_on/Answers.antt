@@ -1,6 +1,7 @@
 use Rattle.tj_run.proofs.Prelude.{program_of, ◌∙◌}
 use Rattle.tj_run.proofs.Seats.WorkersSteps.{goes_since, lacks_on}
 use Rattle.tj_run.proofs.post.Post.run_on.Goals as goal
+use Rattle.tj_cells.proofs.CallLogs.{grows_on}
 
 pub loop-next-preserved : goal.loop-next-preserved
 loop-next-preserved g c =
@@ -10,6 +11,8 @@ loop-next-preserved g c =
       goes = goes_since (program_of b.places b.awaits b.left b.asks b.then) c.args.laid.now done.next c.one_ask.new.rec
           c.args.self.now.seat.me.0 loop.self.seat.me.0 loop.invariant.goes.knows c.one_ask.new.self.seat.me
           done.ensures.goes;
+      log = grows_on c.args.self.now.seat loop.self.seat c.one_ask.new.self.seat loop.invariant.log
+          c.one_ask.ensures.log;
     }
 
 pub returns-in_err-next-in-Runs-clause-stays : goal.returns-in_err-next-in-Runs-clause-stays
@@ -23,3 +26,7 @@ returns-in_err-next-in-Runs-clause-stays g c = (
       c.loop-next.invariant.goes.knows c.in_err-next-in-Runs.ensures.stays.1 c.from_residual-in_err-next-in-Runs.result
       c.from_residual-in_err-next-in-Runs.ensures.1,
 )
+
+pub returns-in_err-next-in-Runs-clause-log : goal.returns-in_err-next-in-Runs-clause-log
+returns-in_err-next-in-Runs-clause-log g c = grows_on c.args.self.now.seat c.loop-next.self.seat c.one_ask.new.self.seat
+    c.loop-next.invariant.log c.one_ask.ensures.log

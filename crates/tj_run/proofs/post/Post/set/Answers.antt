@@ -9,6 +9,8 @@ use Rattle.tj_run.proofs.post.Post.set.Given.{Over}
 use Rattle.tj_run.specs.declared.next.Next.TheVariants as next
 use Rattle.tj_run.proofs.post.Post.set.Goals as goal
 use Rattle.tj_run.proofs.post.Post.set.Goals.{After-at-h, After-fill}
+use Rattle.tj_cells.proofs.CallLogs.{grows_on}
+use Rattle.tj_run.proofs.Seats.LogGrowth.{closed_grows, still}
 
 -- the program that runs
 abbrev program : (g : Over) → Bool → g.row.B.Denot → Program g.row.B.Denot
@@ -105,3 +107,17 @@ returns-clause-goes g c = let at = goal.at.returns-clause-goes g c in
     c.fill.new.seat.me (filled g at.After-fill) c.fill.ensures.seat.2 woke.chain c.wake.new.seat.me woke.woke
     c.wake.ensures.seat.2 c.take_out.new.rec.owned
     (c.take_out.ensures.without c.if-not-take_out.false))
+
+pub returns-in-Task-clause-log : goal.returns-in-Task-clause-log
+returns-in-Task-clause-log g c = still c.args.self.now.seat
+
+pub returns-then-not-take_out-clause-log : goal.returns-then-not-take_out-clause-log
+returns-then-not-take_out-clause-log g c = still c.args.self.now.seat
+
+pub returns-in_err-wake-clause-log : goal.returns-in_err-wake-clause-log
+returns-in_err-wake-clause-log g c = grows_on c.args.self.now.seat c.fill.new.seat c.wake.new.seat
+    (closed_grows c.args.self.now.seat c.fill.new.seat _ _ c.fill.ensures.log) c.wake.ensures.log
+
+pub returns-clause-log : goal.returns-clause-log
+returns-clause-log g c = grows_on c.args.self.now.seat c.fill.new.seat c.wake.new.seat
+    (closed_grows c.args.self.now.seat c.fill.new.seat _ _ c.fill.ensures.log) c.wake.ensures.log

@@ -1,8 +1,6 @@
-use Rattle.tj_words.proofs.Prelude.{MayDraw, arith, count_at, draw_step, program_of, refl, subst, sym, ◌∙◌}
+use Rattle.tj_words.proofs.CallTerms.{Add, MayDraw, arith, count_at, draw_step, its_cell, program_of, refl, subst, sym}
+use Rattle.tj_words.proofs.CallTerms.{told_step, up_is, ◌∙◌}
 use Rattle.tj_words.proofs.Cells.DrawSteps.{draw_allowed}
-use Rattle.tj_log.specs.declared.entry.Did.TheVariants.{Add}
-use Rattle.tj_words.proofs.Calls.ToldSteps.{told_step, up_is}
-use Rattle.tj_words.proofs.Stores.CellSteps.{its_cell}
 use Rattle.tj_words.proofs.SeatLoads.LoadSteps.{count_few}
 use Rattle.tj_words.specs.CallLaws.StepCalls as call
 use Rattle.tj_words.proofs.table.Laid.add_count.Goals as goal

@@ -1,7 +1,5 @@
-use Rattle.tj_words.proofs.Prelude.{MayRaise, arith, refl, subst, sym}
+use Rattle.tj_words.proofs.CallTerms.{Add, MayRaise, arith, refl, subst, sym, told_step, up_is}
 use Rattle.tj_words.proofs.Waiters.OthersSteps.{raise_allowed}
-use Rattle.tj_log.specs.declared.entry.Did.TheVariants.{Add}
-use Rattle.tj_words.proofs.Calls.ToldSteps.{told_step, up_is}
 use Rattle.tj_words.proofs.SeatLoads.WalkLoads.{others_small}
 use Rattle.tj_words.specs.CallLaws.StepCalls as call
 use Rattle.tj_words.proofs.table.Laid.add_other.Goals as goal

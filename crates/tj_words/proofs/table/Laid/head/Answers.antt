@@ -1,10 +1,5 @@
-use Rattle.tj_words.proofs.Prelude.{arith, program_of, refl, sym, ◌∙◌}
-use Rattle.tj_words.specs.Inner.IndexWords.{cell_at}
+use Rattle.tj_words.proofs.CallTerms.{Load, arith, cell_at, is_logged, its_cell, program_of, refl, sym, told_step, ◌∙◌}
 use Rattle.tj_words.proofs.SeatLoads.HeadLoads.{head_allowed}
-use Rattle.tj_words.proofs.SeatLoads.LoggedSteps.{logged_so}
-use Rattle.tj_log.specs.declared.entry.Did.TheVariants.{Load}
-use Rattle.tj_words.proofs.Calls.ToldSteps.{told_step}
-use Rattle.tj_words.proofs.Stores.CellSteps.{its_cell}
 use Rattle.tj_words.specs.SeatViews.SeenWords.{head_load}
 use Rattle.tj_words.specs.CallLaws.StepCalls as call
 use Rattle.tj_words.proofs.table.Laid.head.Goals as goal
@@ -17,11 +12,10 @@ load-requires g c = let a = c.args in let b = g.B.Body in
       head_allowed _ _ _ _ _ a.p.0 c.head_at.result a.self.now.table.shared.table_id.slots (cell_at c.head_at.result)
           (omega (arith, e, c.requires.cell)) c.head_at.ensures.word (a.self.now.slots ∙ sym e) c.head_at.ensures.cell,
       told_step _ (call.sees_head a.p.0) Load 0 0 refl c.head_at.ensures.word
-          (omega (arith, e, a.self.now.some, c.requires.cell, c.head_at.ensures.word))
-          tt
+          (omega (arith, e, a.self.now.some, c.requires.cell, c.head_at.ensures.word)) tt
           (λ s r at m t. (refl, its_cell (head_load program) 0 0 (a.self.now.slots ∙ sym e) c.head_at.ensures.cell t)),
     )
 
 pub returns-clause-log : goal.returns-clause-log
 returns-clause-log g c =
-    (logged_so c.head_at.ensures.word refl refl (sym c.of_word.ensures.back) c.load.ensures.3, c.load.ensures.4)
+    is_logged c.head_at.ensures.word refl refl (sym c.of_word.ensures.back) c.load.ensures.3 c.load.ensures.4

@@ -1,8 +1,5 @@
-use Rattle.tj_words.proofs.Prelude.{arith, live_at, live_load, refl}
+use Rattle.tj_words.proofs.CallTerms.{Load, arith, refl, told_step}
 use Rattle.tj_words.proofs.SeatLoads.LoadSteps.{live_allowed}
-use Rattle.tj_words.proofs.SeatLoads.MomentSteps.{moment_allowed}
-use Rattle.tj_log.specs.declared.entry.Did.TheVariants.{Load}
-use Rattle.tj_words.proofs.Calls.ToldSteps.{told_step}
 use Rattle.tj_words.specs.CallLaws.StepCalls as call
 use Rattle.tj_words.proofs.table.Laid.live.Goals as goal
 
@@ -10,8 +7,7 @@ pub load-requires : goal.load-requires
 load-requires g c = let a = c.args in (
   c.requires.table,
   omega (arith, a.self.now.words, a.self.now.some),
-  moment_allowed _ _ _ _ _ live_at 0 0 (λ n. n) live_load (live_allowed _ _ _ _ _),
-  told_step _ (call.sees_live) Load 0 0 refl refl (omega (arith, a.self.now.key_cells, a.self.now.some))
-      tt
-      (λ s r at m t. (refl, t.0)),
+  live_allowed _ _ _ _ _,
+  told_step _ (call.sees_live) Load 0 0 refl refl (omega (arith, a.self.now.key_cells, a.self.now.some)) tt
+      (λ s r at m t. (refl, t)),
 )

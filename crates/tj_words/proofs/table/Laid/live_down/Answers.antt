@@ -1,7 +1,5 @@
-use Rattle.tj_words.proofs.Prelude.{arith, inl, refl}
+use Rattle.tj_words.proofs.CallTerms.{Sub, arith, down_is, inl, refl, told_step}
 use Rattle.tj_words.proofs.Waiters.LiveCalls.{down_allowed}
-use Rattle.tj_log.specs.declared.entry.Did.TheVariants.{Sub}
-use Rattle.tj_words.proofs.Calls.ToldSteps.{down_is, told_step}
 use Rattle.tj_words.proofs.SeatLoads.LoadSteps.{live_small}
 use Rattle.tj_words.proofs.Waiters.LiveStores.{live_some}
 use Rattle.tj_words.specs.CallLaws.StepCalls as call

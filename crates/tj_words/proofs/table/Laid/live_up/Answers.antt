@@ -1,7 +1,5 @@
-use Rattle.tj_words.proofs.Prelude.{arith, refl}
+use Rattle.tj_words.proofs.CallTerms.{Add, arith, refl, told_step, up_is}
 use Rattle.tj_words.proofs.Waiters.LiveCalls.{up_allowed}
-use Rattle.tj_log.specs.declared.entry.Did.TheVariants.{Add}
-use Rattle.tj_words.proofs.Calls.ToldSteps.{told_step, up_is}
 use Rattle.tj_words.proofs.SeatLoads.LoadSteps.{live_small}
 use Rattle.tj_words.specs.CallLaws.StepCalls as call
 use Rattle.tj_words.proofs.table.Laid.live_up.Goals as goal

@@ -1,7 +1,5 @@
-use Rattle.tj_words.proofs.Prelude.{arith, refl}
+use Rattle.tj_words.proofs.CallTerms.{Sub, arith, down_is, refl, told_step}
 use Rattle.tj_words.proofs.Waiters.OthersSteps.{lower_allowed, lower_stores}
-use Rattle.tj_log.specs.declared.entry.Did.TheVariants.{Sub}
-use Rattle.tj_words.proofs.Calls.ToldSteps.{down_is, told_step}
 use Rattle.tj_words.proofs.SeatLoads.WalkLoads.{others_small}
 use Rattle.tj_words.specs.CallLaws.StepCalls as call
 use Rattle.tj_words.proofs.table.Laid.others_down.Goals as goal

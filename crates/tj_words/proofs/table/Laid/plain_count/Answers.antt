@@ -1,9 +1,5 @@
-use Rattle.tj_words.proofs.Prelude.{IsCount, arith, count_at, plain_load, refl, sym, ◌∙◌}
-use Rattle.tj_words.proofs.Lemmas.{moment_allowed}
+use Rattle.tj_words.proofs.CallTerms.{IsCount, Load, arith, its_cell, plain_load, refl, sym, told_step, ◌∙◌}
 use Rattle.tj_words.proofs.SeatLoads.LoadSteps.{count_allowed}
-use Rattle.tj_log.specs.declared.entry.Did.TheVariants.{Load}
-use Rattle.tj_words.proofs.Calls.ToldSteps.{told_step}
-use Rattle.tj_words.proofs.Stores.CellSteps.{its_cell}
 use Rattle.tj_words.specs.declared.view.Noted.TheVariants as note
 use Rattle.tj_words.specs.CallLaws.StepCalls as call
 use Rattle.tj_words.proofs.table.Laid.plain_count.Goals as goal
@@ -13,14 +9,12 @@ load-found-requires g c = let a = c.args in let e = a.self.now.key_cells in
     let cells = a.self.now.table.shared.table_id.slots in (
       c.requires.table,
       omega (arith, a.self.now.words, a.self.now.some),
-      moment_allowed _ _ _ _ _ count_at 0 0 (λ n. n) (plain_load note.Count (IsCount cells))
-          (count_allowed _ _ _ _ _ cells (a.self.now.slots ∙ sym e)),
-      told_step _ (call.counts) Load 0 0 refl refl (omega (arith, e, a.self.now.some))
-          tt
+      count_allowed _ _ _ _ _ cells (a.self.now.slots ∙ sym e),
+      told_step _ (call.counts) Load 0 0 refl refl (omega (arith, e, a.self.now.some)) tt
           (λ s r at m t. (
             refl,
             its_cell (λ cells c. plain_load note.Count (IsCount cells)) 0 0 (a.self.now.slots ∙ sym e) refl
-                t.0,
+                t,
           )),
     )
 

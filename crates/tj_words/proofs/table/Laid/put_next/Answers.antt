@@ -1,10 +1,5 @@
-use Rattle.tj_words.proofs.Prelude.{arith, refl, word}
-use Rattle.tj_words.specs.Inner.IndexWords.{cell_at}
+use Rattle.tj_words.proofs.CallTerms.{Store, arith, cell_at, is_logged, its_cell, refl, told_step, word}
 use Rattle.tj_words.proofs.Waiters.HeadSteps.{next_allowed}
-use Rattle.tj_words.proofs.SeatLoads.LoggedSteps.{logged_so}
-use Rattle.tj_log.specs.declared.entry.Did.TheVariants.{Store}
-use Rattle.tj_words.proofs.Calls.ToldSteps.{told_step}
-use Rattle.tj_words.proofs.Stores.CellSteps.{its_cell}
 use Rattle.tj_words.specs.Calls.ChainSteps.{next_store}
 use Rattle.tj_words.specs.CallLaws.StepCalls as call
 use Rattle.tj_words.proofs.table.Laid.put_next.Goals as goal
@@ -27,7 +22,5 @@ store-requires g c = let a = c.args in let e = a.self.now.key_cells in (
 )
 
 pub returns-clause-log : goal.returns-clause-log
-returns-clause-log g c = (
-  logged_so c.next_at.ensures.word c.word.ensures.word refl c.word.ensures.word c.store.ensures.3,
-  c.store.ensures.4,
-)
+returns-clause-log g c =
+    is_logged c.next_at.ensures.word c.word.ensures.word refl c.word.ensures.word c.store.ensures.3 c.store.ensures.4

@@ -1,11 +1,7 @@
-use Rattle.tj_words.proofs.Prelude.{PutsOwner, arith, refl, subst, sym, word}
+use Rattle.tj_words.proofs.CallTerms.{PutsOwner, Store, arith, cell_at, is_logged, its_cell, refl, subst, sym}
+use Rattle.tj_words.proofs.CallTerms.{told_step, word}
 use Rattle.tj_words.specs.Calls.OwnerViews.{MayPutOwner, owner_put}
-use Rattle.tj_words.specs.Inner.IndexWords.{cell_at}
 use Rattle.tj_words.proofs.Cells.OwnerStores.{owner_allowed}
-use Rattle.tj_words.proofs.Stores.CellSteps.{its_cell}
-use Rattle.tj_words.proofs.SeatLoads.LoggedSteps.{logged_so}
-use Rattle.tj_log.specs.declared.entry.Did.TheVariants.{Store}
-use Rattle.tj_words.proofs.Calls.ToldSteps.{told_step}
 use Rattle.tj_words.specs.CallLaws.StepCalls as call
 use Rattle.tj_words.proofs.table.Laid.put_owner.Goals as goal
 
@@ -17,8 +13,7 @@ store-requires g c = let a = c.args in let e = a.self.now.key_cells in (
       (cell_at c.own_at.result) (omega (arith, e, c.requires.cell)) c.own_at.ensures.word c.own_at.ensures.cell
       (subst (λ o. MayPutOwner a.c.0 o a.seat.now.me.0) (sym c.word_of_owner.ensures.back) c.requires.may),
   told_step _ (call.puts_owner a.c.0) Store c.word_of_owner.result 0 refl c.own_at.ensures.word
-      (omega (arith, e, a.self.now.some, c.requires.cell, c.own_at.ensures.word))
-      tt
+      (omega (arith, e, a.self.now.some, c.requires.cell, c.own_at.ensures.word)) tt
       (λ s r at m t. (
         refl,
         (
@@ -36,7 +31,5 @@ returns-clause-view g c = let a = c.args in subst (λ o. PutsOwner a.c.0 o a.sea
     c.own_at.ensures.cell c.store.ensures.2).1
 
 pub returns-clause-log : goal.returns-clause-log
-returns-clause-log g c = (
-  logged_so c.own_at.ensures.word c.word_of_owner.ensures.word refl c.word_of_owner.ensures.word c.store.ensures.3,
-  c.store.ensures.4,
-)
+returns-clause-log g c = is_logged c.own_at.ensures.word c.word_of_owner.ensures.word refl
+    c.word_of_owner.ensures.word c.store.ensures.3 c.store.ensures.4

@@ -1,12 +1,9 @@
-use Rattle.tj_words.proofs.Prelude.{ap, arith, refl, subst, word, ◌∙◌, ◌≡◌}
-use Rattle.tj_words.specs.Inner.IndexWords.{cell_at, once_of}
+use Rattle.tj_words.proofs.CallTerms.{Store, ap, arith, cell_at, is_logged, its_cell, once_back, once_of, refl, subst}
+use Rattle.tj_words.proofs.CallTerms.{told_step, word, ◌∙◌, ◌≡◌}
 use Rattle.tj_words.proofs.SeatLoads.KnowLoads.{once_within}
 use Rattle.tj_words.proofs.Stores.WordStores.{word_allowed}
 use Rattle.tj_words.specs.Calls.DrawViews.{word_store, wrote_word}
-use Rattle.tj_words.proofs.Stores.CellSteps.{its_cell, once_back}
-use Rattle.tj_words.proofs.SeatLoads.LoggedSteps.{logged_so}
-use Rattle.tj_log.specs.declared.entry.Did.TheVariants.{Store}
-use Rattle.tj_words.proofs.Calls.ToldSteps.{told_step, tree_may, tree_puts}
+use Rattle.tj_words.proofs.Calls.ToldSteps.{tree_may, tree_puts}
 use Rattle.tj_words.specs.CallLaws.StepCalls as call
 use Rattle.tj_words.proofs.table.Laid.put_tree_word.Goals as goal
 
@@ -20,8 +17,7 @@ store-requires g c = let a = c.args in let e = a.self.now.key_cells in (
       (ap once_of c.once_at.ensures.word ∙ once_back a.c.0 a.f) c.requires.may,
   told_step _ (call.puts_once a.c.0 a.f) Store a.v 0 refl c.once_at.ensures.word
       (let h = once_within a.c.0 a.self.now.cells a.f c.requires.cell in
-      omega (arith, e, c.once_at.ensures.word))
-      tt
+      omega (arith, e, c.once_at.ensures.word)) tt
       (λ s r at m t. (
         refl,
         (
@@ -43,4 +39,4 @@ returns-clause-view g c = let a = c.args in
     c.once_at.ensures.cell c.store.ensures.2).1
 
 pub returns-clause-log : goal.returns-clause-log
-returns-clause-log g c = (logged_so c.once_at.ensures.word refl refl refl c.store.ensures.3, c.store.ensures.4)
+returns-clause-log g c = is_logged c.once_at.ensures.word refl refl refl c.store.ensures.3 c.store.ensures.4

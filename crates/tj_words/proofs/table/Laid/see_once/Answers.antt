@@ -1,11 +1,7 @@
-use Rattle.tj_words.proofs.Prelude.{SeesOnce, ap, arith, none, program_of, refl, step, subst, sym, word, ◌∙◌}
-use Rattle.tj_words.specs.Inner.IndexWords.{cell_at, once_of}
+use Rattle.tj_words.proofs.CallTerms.{Load, SeesOnce, ap, arith, cell_at, is_logged, its_cell, none, once_back, once_of}
+use Rattle.tj_words.proofs.CallTerms.{program_of, refl, step, subst, sym, told_step, word, ◌∙◌}
 use Rattle.tj_words.proofs.SeatLoads.KnowLoads.{once_allowed, once_within}
 use Rattle.tj_words.specs.SeatViews.SeenWords.{once_load}
-use Rattle.tj_words.proofs.Stores.CellSteps.{its_cell, once_back}
-use Rattle.tj_words.proofs.SeatLoads.LoggedSteps.{logged_so}
-use Rattle.tj_log.specs.declared.entry.Did.TheVariants.{Load}
-use Rattle.tj_words.proofs.Calls.ToldSteps.{told_step}
 use Rattle.tj_words.specs.CallLaws.StepCalls as call
 use Rattle.tj_words.proofs.table.Laid.see_once.Goals as goal
 
@@ -43,4 +39,4 @@ returns-clause-sees g c = let a = c.args in let b = g.B.Body in
     c.load.ensures.2).1
 
 pub returns-clause-log : goal.returns-clause-log
-returns-clause-log g c = (logged_so c.once_at.ensures.word refl refl refl c.load.ensures.3, c.load.ensures.4)
+returns-clause-log g c = is_logged c.once_at.ensures.word refl refl refl c.load.ensures.3 c.load.ensures.4

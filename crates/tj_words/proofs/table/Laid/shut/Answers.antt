@@ -1,10 +1,6 @@
-use Rattle.tj_words.proofs.Prelude.{arith, refl, sym, ◌∙◌}
-use Rattle.tj_words.specs.Inner.IndexWords.{cell_at}
+use Rattle.tj_words.proofs.CallTerms.{arith, cell_at, is_logged, its_cell, refl, sym, told_step, ◌∙◌}
 use Rattle.tj_words.proofs.Waiters.HeadSteps.{shut_allowed}
-use Rattle.tj_words.proofs.SeatLoads.LoggedSteps.{logged_so}
 use Rattle.tj_log.specs.declared.entry.Did.TheVariants.{Swap}
-use Rattle.tj_words.proofs.Calls.ToldSteps.{told_step}
-use Rattle.tj_words.proofs.Stores.CellSteps.{its_cell}
 use Rattle.tj_words.specs.Calls.ChainSteps.{shut_swap}
 use Rattle.tj_words.specs.CallLaws.StepCalls as call
 use Rattle.tj_words.proofs.table.Laid.shut.Goals as goal
@@ -27,7 +23,5 @@ swap-found-requires g c = let a = c.args in let e = a.self.now.key_cells in (
 )
 
 pub returns-clause-log : goal.returns-clause-log
-returns-clause-log g c = (
-  logged_so c.head_at.ensures.word c.word.ensures.word refl (sym c.of_word.ensures.back) c.swap-found.ensures.3,
-  c.swap-found.ensures.4,
-)
+returns-clause-log g c = is_logged c.head_at.ensures.word c.word.ensures.word refl (sym c.of_word.ensures.back)
+    c.swap-found.ensures.3 c.swap-found.ensures.4

@@ -1,7 +1,5 @@
-use Rattle.tj_words.proofs.Prelude.{arith, refl}
+use Rattle.tj_words.proofs.CallTerms.{Store, arith, refl, told_step}
 use Rattle.tj_words.proofs.Waiters.LiveCalls.{stop_allowed}
-use Rattle.tj_log.specs.declared.entry.Did.TheVariants.{Store}
-use Rattle.tj_words.proofs.Calls.ToldSteps.{told_step}
 use Rattle.tj_words.specs.CallLaws.StepCalls as call
 use Rattle.tj_words.proofs.table.Laid.stop.Goals as goal
 

@@ -1,12 +1,7 @@
-use Rattle.tj_words.proofs.Prelude.{arith, refl, subst, word}
+use Rattle.tj_words.proofs.CallTerms.{Store, arith, cell_at, is_logged, its_cell, refl, subst, told_step, word}
 use Rattle.tj_words.specs.Calls.EntryViews.{PutsTag, tag_store}
-use Rattle.tj_words.specs.Inner.IndexWords.{cell_at}
 use Rattle.tj_words.proofs.SeatLoads.KnowLoads.{once_within}
 use Rattle.tj_words.proofs.Stores.EntryStores.{tag_allowed}
-use Rattle.tj_words.proofs.SeatLoads.LoggedSteps.{logged_so}
-use Rattle.tj_log.specs.declared.entry.Did.TheVariants.{Store}
-use Rattle.tj_words.proofs.Calls.ToldSteps.{told_step}
-use Rattle.tj_words.proofs.Stores.CellSteps.{its_cell}
 use Rattle.tj_words.specs.declared.offsets.Once.TheVariants as once
 use Rattle.tj_words.specs.CallLaws.StepCalls as call
 use Rattle.tj_words.proofs.table.Laid.store_tag.Goals as goal
@@ -19,8 +14,7 @@ store-requires g c = let a = c.args in let e = a.self.now.key_cells in
       tag_allowed _ _ _ _ _ a.c.0 c.once_at.result a.v (cell_at c.once_at.result) (omega (arith, e, c.requires.cell))
           c.once_at.ensures.word c.once_at.ensures.cell c.requires.may,
       told_step _ (call.puts_once a.c.0 once.Tag) Store a.v 0 refl c.once_at.ensures.word
-          (omega (arith, e, w, c.once_at.ensures.word))
-          tt
+          (omega (arith, e, w, c.once_at.ensures.word)) tt
           (λ s r at m t. (
             refl,
             (let h = its_cell (λ cells. tag_store) a.v 0 {n = word s.words c.once_at.result} a.self.now.slots
@@ -34,4 +28,4 @@ returns-clause-view g c =
     c.store.ensures.2.1
 
 pub returns-clause-log : goal.returns-clause-log
-returns-clause-log g c = (logged_so c.once_at.ensures.word refl refl refl c.store.ensures.3, c.store.ensures.4)
+returns-clause-log g c = is_logged c.once_at.ensures.word refl refl refl c.store.ensures.3 c.store.ensures.4

@@ -1,10 +1,6 @@
-use Rattle.tj_words.proofs.Prelude.{IsCount, IsWalking, arith, count_at, count_read, min, refl, subst, sym, walk_load}
-use Rattle.tj_words.proofs.Prelude.{◌∙◌}
-use Rattle.tj_words.proofs.Lemmas.{moment_allowed}
+use Rattle.tj_words.proofs.CallTerms.{IsCount, IsWalking, Load, arith, count_at, count_read, its_cell, min, refl, subst}
+use Rattle.tj_words.proofs.CallTerms.{sym, told_step, walk_load, ◌∙◌}
 use Rattle.tj_words.proofs.SeatLoads.WalkLoads.{count_read_allowed}
-use Rattle.tj_log.specs.declared.entry.Did.TheVariants.{Load}
-use Rattle.tj_words.proofs.Calls.ToldSteps.{told_step}
-use Rattle.tj_words.proofs.Stores.CellSteps.{its_cell}
 use Rattle.tj_events.specs.Events.{MayCount}
 use Rattle.tj_words.specs.CallLaws.StepCalls as call
 use Rattle.tj_words.proofs.table.Laid.walker_count.Goals as goal
@@ -14,16 +10,14 @@ load-requires g c = let a = c.args in let e = a.self.now.key_cells in
     let cells = a.self.now.table.shared.table_id.slots in (
       c.requires.table,
       omega (arith, a.self.now.words, a.self.now.some),
-      moment_allowed _ _ _ _ _ count_at 0 0 (λ n. n)
-          (walk_load g.M.Naming.task (λ n. count_read (min n cells)) (IsCount cells))
-          (count_read_allowed _ _ c.event_keeps_facts.ensures _ _ _ a.t.0 g.M.Naming.task cells
-          c.requires.named (a.self.now.slots ∙ sym e) c.requires.walks),
+      count_read_allowed _ _ c.event_keeps_facts.ensures _ _ _ a.t.0 g.M.Naming.task cells
+          c.requires.named (a.self.now.slots ∙ sym e) c.requires.walks,
       told_step _ (call.counts_by g.M.Naming.task) Load 0 0 refl refl (omega (arith, e, a.self.now.some))
           (subst (λ k. IsWalking k (λ p way w. MayCount way w) a.seat.now.me.0) (sym c.requires.named)
           c.requires.walks)
           (λ s r at m t. (
             refl,
             its_cell (λ cells c. walk_load g.M.Naming.task (λ n. count_read (min n cells)) (IsCount cells)) 0 0
-                {i = count_at} {m = a.seat.now.me} (a.self.now.slots ∙ sym e) refl t.0,
+                {i = count_at} {m = a.seat.now.me} (a.self.now.slots ∙ sym e) refl t,
           )),
     )

@@ -1,8 +1,5 @@
-use Rattle.tj_words.proofs.Prelude.{IsWalking, arith, others_at, others_read, refl, subst, sym, walk_load, ◌<◌, ◌^◌}
-use Rattle.tj_words.proofs.Lemmas.{moment_allowed}
+use Rattle.tj_words.proofs.CallTerms.{IsWalking, Load, arith, refl, subst, sym, told_step}
 use Rattle.tj_words.proofs.SeatLoads.WalkLoads.{others_read_allowed}
-use Rattle.tj_log.specs.declared.entry.Did.TheVariants.{Load}
-use Rattle.tj_words.proofs.Calls.ToldSteps.{told_step}
 use Rattle.tj_events.specs.Events.{MayReadOthers}
 use Rattle.tj_words.specs.CallLaws.StepCalls as call
 use Rattle.tj_words.proofs.table.Laid.walker_others.Goals as goal
@@ -11,12 +8,11 @@ pub load-requires : goal.load-requires
 load-requires g c = let a = c.args in (
   c.requires.table,
   omega (arith, a.self.now.words, a.self.now.some),
-  moment_allowed _ _ _ _ _ others_at 0 0 (λ n. n) (walk_load g.M.Naming.task others_read (λ n. n < 2 ^ 32))
-      (others_read_allowed _ _ c.event_keeps_facts.ensures _ _ _ c.others_are_few.ensures a.t.0 g.M.Naming.task
-      c.requires.named c.requires.walks),
+  others_read_allowed _ _ c.event_keeps_facts.ensures _ _ _ c.others_are_few.ensures a.t.0 g.M.Naming.task
+      c.requires.named c.requires.walks,
   told_step _ (call.sees_others_by g.M.Naming.task) Load 0 0 refl refl
       (omega (arith, a.self.now.key_cells, a.self.now.some))
       (subst (λ k. IsWalking k (λ p way w. MayReadOthers way w) a.seat.now.me.0) (sym c.requires.named)
       c.requires.walks)
-      (λ s r at m t. (refl, t.0)),
+      (λ s r at m t. (refl, t)),
 )

@@ -1,10 +1,6 @@
-use Rattle.tj_words.proofs.Prelude.{IsWalking, arith, owner_in, owner_seen, refl, subst, sym, walk_load, ◌∙◌, ◌≡◌, ◌≤◌}
-use Rattle.tj_words.proofs.Lemmas.{moment_allowed, so_too}
+use Rattle.tj_words.proofs.CallTerms.{IsWalking, Load, arith, is_logged, its_cell, owner_in, owner_seen, refl, subst}
+use Rattle.tj_words.proofs.CallTerms.{sym, told_step, walk_load, ◌∙◌, ◌≡◌, ◌≤◌}
 use Rattle.tj_words.proofs.SeatLoads.WalkLoads.{owner_read_allowed}
-use Rattle.tj_words.proofs.SeatLoads.LoggedSteps.{logged_so}
-use Rattle.tj_log.specs.declared.entry.Did.TheVariants.{Load}
-use Rattle.tj_words.proofs.Calls.ToldSteps.{told_step}
-use Rattle.tj_words.proofs.Stores.CellSteps.{its_cell}
 use Rattle.tj_events.specs.CoreState.{present}
 use Rattle.tj_words.specs.Calls.WalkViews.{MayLoadOwner}
 use Rattle.tj_words.specs.CallLaws.StepCalls as call
@@ -15,11 +11,9 @@ load-requires g c = let a = c.args in let e = a.self.now.key_cells in
     let cells = a.self.now.table.shared.table_id.slots in (
       c.requires.table,
       omega (arith, a.self.now.words, a.self.now.some, c.requires.cell, c.own_at.ensures.word),
-      moment_allowed _ _ _ _ _ c.own_at.result 0 0 (λ n. n)
-          (walk_load g.M.Naming.task (λ n w. owner_seen (owner_in n) w w.last) (λ n. n ≤ cells))
-          (owner_read_allowed _ _ c.event_keeps_facts.ensures _ _ _ a.t.0 g.M.Naming.task cells a.c.0
+      owner_read_allowed _ _ c.event_keeps_facts.ensures _ _ _ a.t.0 g.M.Naming.task cells a.c.0
           c.own_at.result c.requires.named (a.self.now.slots ∙ sym e) c.own_at.ensures.word
-          (omega (arith, e, c.requires.cell)) c.requires.walks),
+          (omega (arith, e, c.requires.cell)) c.requires.walks,
       told_step _ (call.sees_owner_by g.M.Naming.task a.c.0) Load 0 0 refl c.own_at.ensures.word
           (omega (arith, e, a.self.now.some, c.requires.cell, c.own_at.ensures.word))
           (subst (λ k. IsWalking k (λ p way w. (a.c.0 ≡ present p w.trail) × MayLoadOwner w) a.seat.now.me.0)
@@ -27,12 +21,9 @@ load-requires g c = let a = c.args in let e = a.self.now.key_cells in
           (λ s r at m t. (
             refl,
             its_cell (λ cells c. walk_load g.M.Naming.task (λ n w. owner_seen (owner_in n) w w.last) (λ n. n ≤ cells))
-                0 0 {m = a.seat.now.me} (a.self.now.slots ∙ sym e) c.own_at.ensures.cell t.0,
+                0 0 {m = a.seat.now.me} (a.self.now.slots ∙ sym e) c.own_at.ensures.cell t,
           )),
     )
 
-pub returns-clause-moment : goal.returns-clause-moment
-returns-clause-moment g c = so_too c.own_at.ensures.word refl c.load.ensures.2.1
-
 pub returns-clause-log : goal.returns-clause-log
-returns-clause-log g c = (logged_so c.own_at.ensures.word refl refl refl c.load.ensures.3, c.load.ensures.4)
+returns-clause-log g c = is_logged c.own_at.ensures.word refl refl refl c.load.ensures.3 c.load.ensures.4

@@ -1,12 +1,6 @@
-use Rattle.tj_words.proofs.Prelude.{IsPhaseWord, IsWalking, arith, phase_in, refl, subst, sym, wait_found, wait_in}
-use Rattle.tj_words.proofs.Prelude.{walk_load, ◌∙◌}
-use Rattle.tj_words.specs.Inner.IndexWords.{cell_at}
-use Rattle.tj_words.proofs.Lemmas.{moment_allowed, so_too}
+use Rattle.tj_words.proofs.CallTerms.{IsPhaseWord, IsWalking, Load, arith, cell_at, is_logged, its_cell, phase_in, refl}
+use Rattle.tj_words.proofs.CallTerms.{subst, sym, told_step, wait_found, wait_in, walk_load, ◌∙◌}
 use Rattle.tj_words.proofs.SeatLoads.WalkLoads.{wait_read_allowed}
-use Rattle.tj_words.proofs.SeatLoads.LoggedSteps.{logged_so}
-use Rattle.tj_log.specs.declared.entry.Did.TheVariants.{Load}
-use Rattle.tj_words.proofs.Calls.ToldSteps.{told_step}
-use Rattle.tj_words.proofs.Stores.CellSteps.{its_cell}
 use Rattle.tj_words.specs.Calls.WalkViews.{MayLoadWait}
 use Rattle.tj_words.specs.CallLaws.StepCalls as call
 use Rattle.tj_words.proofs.table.Laid.walker_wait.Goals as goal
@@ -16,13 +10,10 @@ load-requires g c = let a = c.args in let e = a.self.now.key_cells in
     let cells = a.self.now.table.shared.table_id.slots in (
       c.requires.table,
       omega (arith, a.self.now.words, a.self.now.some, c.requires.cell, c.phase_at.ensures.word),
-      moment_allowed _ _ _ _ _ c.phase_at.result 0 0 (λ n. n)
-          (walk_load g.M.Naming.task (λ n. wait_found (cell_at c.phase_at.result) (wait_in (phase_in n)))
-          (IsPhaseWord cells))
-          (wait_read_allowed _ _ c.event_keeps_facts.ensures _ _ _ a.t.0 g.M.Naming.task a.u.0
+      wait_read_allowed _ _ c.event_keeps_facts.ensures _ _ _ a.t.0 g.M.Naming.task a.u.0
           (cell_at c.phase_at.result)
           cells c.phase_at.result c.requires.named c.phase_at.ensures.cell (a.self.now.slots ∙ sym e)
-          c.phase_at.ensures.word (omega (arith, e, c.requires.cell)) c.requires.walks),
+          c.phase_at.ensures.word (omega (arith, e, c.requires.cell)) c.requires.walks,
       told_step _ (call.sees_phase_by g.M.Naming.task a.u.0) Load 0 0 refl c.phase_at.ensures.word
           (omega (arith, e, a.self.now.some, c.requires.cell, c.phase_at.ensures.word))
           (subst (λ k. IsWalking k (λ p way w. MayLoadWait k a.u.0 w) a.seat.now.me.0) (sym c.requires.named)
@@ -30,12 +21,9 @@ load-requires g c = let a = c.args in let e = a.self.now.key_cells in
           (λ s r at m t. (
             refl,
             its_cell (λ cells c. walk_load g.M.Naming.task (λ n. wait_found c (wait_in (phase_in n)))
-                (IsPhaseWord cells)) 0 0 {m = a.seat.now.me} (a.self.now.slots ∙ sym e) c.phase_at.ensures.cell t.0,
+                (IsPhaseWord cells)) 0 0 {m = a.seat.now.me} (a.self.now.slots ∙ sym e) c.phase_at.ensures.cell t,
           )),
     )
 
-pub returns-clause-moment : goal.returns-clause-moment
-returns-clause-moment g c = so_too c.phase_at.ensures.word refl c.load.ensures.2.1
-
 pub returns-clause-log : goal.returns-clause-log
-returns-clause-log g c = (logged_so c.phase_at.ensures.word refl refl refl c.load.ensures.3, c.load.ensures.4)
+returns-clause-log g c = is_logged c.phase_at.ensures.word refl refl refl c.load.ensures.3 c.load.ensures.4
