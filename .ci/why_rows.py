@@ -19,6 +19,10 @@ SEVERAL = (
 IN_A_LOOP = ("task main() {\r\n\tlet i = 0;\r\n\twhile i < 2 {\r\n\t\tfork f(i);\r\n\t\ti = i + 1;\r\n\t}\r\n}\r\n"
              "task f(n) { if n == 1 { get me; } }")
 
+# A cycle of two, and a task that waits behind it.
+DEADLOCK = ("task main() {\n  let p = new;\n  let q = new;\n  fork a(own p, q);\n  fork a(own q, p);\n  let x = get p;\n}\n"
+            "task a(mine, other) {\n\tlet z = get other; set mine = z;\n}\n")
+
 # What a row shows, the words, a script, and the text.
 TOLD = (
     ("a promise owed", "", OWED,
@@ -26,52 +30,116 @@ TOLD = (
     ("the same as a graph", "--dot --steps 7", OWED,
      'digraph tasks {\n  node [shape=box];\n  "0" [label="0\\nmain\\n3:3"];\n'
      '  "0.1" [shape=ellipse, style=filled, fillcolor=khaki];\n  "0.1" -> "0" [style=dotted];\n}\n'),
-    ("a join against the order by the strict rule", "--strict", ANCESTOR,
-     "failed: 0.1 (task kid, forked at 1:15) at 2:23: order 0\n"),
+    ("a join against the order by the strict rule", "--strict --short", ANCESTOR,
+     "failed: 0.1 (task kid(0), forked at 1:15) at 2:23: order 0\n"),
     ("the same without it", "", ANCESTOR, "nothing is wrong: 2 tasks ended, each promise was set\n"),
     ("too few cells", "--cells 1 --all", OWED, "full: more than 1 cells\n"),
     ("a cell too few", "--cells 2", OWES_AT_THE_BRACE, "full: more than 2 cells\n"),
     ("just enough, and a promise that is owed at the closing brace", "--cells 3", OWES_AT_THE_BRACE,
      "owed: the promise 0.1 (made at 1:23) was never set: 0 (task main) owned it and ended at 1:40\n"),
-    ("several tasks", "", SEVERAL,
+    ("several tasks", "--short", SEVERAL,
      "deadlock: 2 tasks wait for each other\n"
-     "  0.3.1 (task left, forked at 20:3) waits at 2:10 for the promise 0.2 (made at 5:24), which 0.4 owns\n"
-     "  0.4 (task left, forked at 9:57) waits at 2:10 for the promise 0.1 (made at 5:11), which 0.3.1 owns\n"
+     "  0.3.1 (task left(0.1, 0.2), forked at 20:3) waits at 2:10 for the promise 0.2 (made at 5:24), which 0.4 owns\n"
+     "  0.4 (task left(0.2, 0.1), forked at 9:57) waits at 2:10 for the promise 0.1 (made at 5:11), which 0.3.1 owns\n"
      "failed: 0 (task main) at 16:18: kind\n"
-     "failed: 0.6 (task faulty, forked at 14:11) at 23:47: owner 0.5 (made at 13:11)\n"
+     "failed: 0.6 (task faulty(0.5), forked at 14:11) at 23:47: owner 0.5 (made at 13:11), handed twice here\n"
      "owed: the promise 0.5 (made at 13:11) was never set: "
-     "0.6 (task faulty, forked at 14:11) owned it and failed at 23:47\n"),
-    ("a task at its second wait, and a promise that was set", "",
+     "0.6 (task faulty(0.5), forked at 14:11) owned it and failed at 23:47\n"),
+    ("a task at its second wait, and a promise that was set", "--short",
      "task main() {\n  let p = new; let q = new;\n  set p = 1;\n  let a = get p; let b = get q;\n}",
      "deadlock: 1 task waits for itself\n"
      "  0 (task main) waits at 4:26 for the promise 0.2 (made at 2:24), which 0 owns\n"),
-    ("a task joins itself, and waits", "", ITSELF,
+    ("a task joins itself, and waits", "--short", ITSELF,
      "deadlock: 1 task waits for itself\n  0 (task main) waits at 1:24 for the task 0\n"),
-    ("under the strict rule it fails", "--strict", ITSELF, "failed: 0 (task main) at 1:24: order 0\n"),
-    ("forks in a loop, tabs and carriage returns", "", IN_A_LOOP,
-     "failed: 0.2 (task f, forked at 4:3) at 8:25: kind\n"),
-    ("a promise that is handed three times, and a fault behind `or`", "",
+    ("under the strict rule it fails", "--strict --short", ITSELF, "failed: 0 (task main) at 1:24: order 0\n"),
+    ("forks in a loop, tabs and carriage returns", "--short", IN_A_LOOP,
+     "failed: 0.2 (task f(1), forked at 4:3) at 8:25: kind\n"),
+    ("a promise that is handed three times, and a fault behind `or`", "--short",
      "task main() { let p = new; fork a(own p); get p or 1 / 0; } task a(p) { fork b(own p); } "
      "task b(p) { fork c(own p); } task c(p) { }",
      "failed: 0 (task main) at 1:43: arith\n"
      "owed: the promise 0.1 (made at 1:23) was never set: "
-     "0.2.1.1 (task c, forked at 1:102) owned it and ended at 1:131\n"),
-    ("a fork that is refused makes nothing, and a task waits for what it owns", "",
+     "0.2.1.1 (task c(0.1), forked at 1:102) owned it and ended at 1:131\n"),
+    ("a fork that is refused makes nothing, and a task waits for what it owns", "--short",
      "task main() { let p = new; let q = new; fork f(own p, own q); fork f(own p, own q); } "
      "task f(a, b) { get a; }",
      "deadlock: 1 task waits for itself\n"
-     "  0.3 (task f, forked at 1:41) waits at 1:102 for the promise 0.1 (made at 1:23), which 0.3 owns\n"
-     "failed: 0 (task main) at 1:63: owner 0.1 (made at 1:23)\n"),
-    ("an `if` with an `else` in a loop, a loop in it, and a promise that is owed", "",
+     "  0.3 (task f(0.1, 0.2), forked at 1:41) waits at 1:102 for the promise 0.1 (made at 1:23), which 0.3 owns\n"
+     "failed: 0 (task main) at 1:63: owner 0.1 (made at 1:23), handed to 0.3 at 1:41\n"),
+    ("an `if` with an `else` in a loop, a loop in it, and a promise that is owed", "--short",
      "task main() { let i = 0; while i < 2 { if i { while 1 { let x = new; set x = 1 / 0; } } "
      "else { fork g(); } i = i + 1; } } task g() { return 1; }",
      "failed: 0 (task main) at 1:70: arith\n"
      "owed: the promise 0.2 (made at 1:65) was never set: 0 (task main) owned it and failed at 1:70\n"),
-    ("a condition that is no number", "", "task main() { let p = new; while p { } }",
+    ("a condition that is no number", "--short", "task main() { let p = new; while p { } }",
      "failed: 0 (task main) at 1:28: kind\n"
      "owed: the promise 0.1 (made at 1:23) was never set: 0 (task main) owned it and failed at 1:28\n"),
     ("a block that isn't taken", "", "task main() { let p = new; if 0 { while 1 { print 1; } } }",
      "owed: the promise 0.1 (made at 1:23) was never set: 0 (task main) owned it and ended at 1:58\n"),
+    ("source lines below a cycle's members, and none below a wait behind it", "", DEADLOCK,
+     "deadlock: 2 tasks wait for each other\n"
+     "  0.3 (task a(0.1, 0.2), forked at 4:3) waits at 9:10 for the promise 0.2 (made at 3:11), which 0.4 owns\n"
+     "\tlet z = get other; set mine = z;\n"
+     "\t        ^\n"
+     "  0.4 (task a(0.2, 0.1), forked at 5:3) waits at 9:10 for the promise 0.1 (made at 2:11), which 0.3 owns\n"
+     "\tlet z = get other; set mine = z;\n"
+     "\t        ^\n"
+     "behind a deadlock: 0 (task main) waits at 6:11 for the promise 0.1 (made at 2:11), which 0.3 owns\n"),
+    ("a source line below a failure, with a tab and a carriage return, and none below its echo", "",
+     "task main() {\r\n\tlet t = fork f();\r\n\tjoin t;\r\n}\r\ntask f() {\r\n\tlet x = 1 / 0;\r\n}\r\n",
+     "failed: 0.1 (task f, forked at 2:10) at 6:2: arith\n"
+     "\tlet x = 1 / 0;\r\n"
+     "\t^\n"
+     "failed: 0 (task main) at 3:2: broken 0.1 (made at 2:10), at first from 0.1, which failed at 6:2\n"),
+    ("a source line below each failure", "--all", "task main() {\n  fork f();\n  fork f();\n}\n"
+     "task f() { return 1 / 0; }\n",
+     "failed: 0.1 (task f, forked at 2:3) at 5:12: arith\n"
+     "task f() { return 1 / 0; }\n"
+     "           ^\n"
+     "failed: 0.2 (task f, forked at 3:3) at 5:12: arith\n"
+     "task f() { return 1 / 0; }\n"
+     "           ^\n"),
+    ("the flags with each other", "--all --short --strict", ANCESTOR,
+     "failed: 0.1 (task kid(0), forked at 1:15) at 2:23: order 0\n"),
+    ("a graph, short", "--short --dot", ITSELF,
+     'digraph tasks {\n  node [shape=box];\n  "0" [label="0\\nmain\\n1:24"];\n'
+     '  "0" -> "0" [color=red, penwidth=3];\n}\n'),
+    ("nothing is wrong, as an object", "--json", "task main() { fork f(); } task f() { }",
+     '{"kind":"fine","tasks":2}\n'),
+    ("too few cells, as an object", "--all --json --cells 1", OWED, '{"kind":"full","cells":1}\n'),
+    ("a cycle and a wait behind it, as objects", "--json", DEADLOCK,
+     '{"kind":"deadlock","waits":['
+     '{"task":{"name":"0.3","task":"a","forked":"4:3","stopped":"waits","at":"9:10"},'
+     '"cell":{"name":"0.2","sort":"promise","made":"3:11"},"owner":"0.4"},'
+     '{"task":{"name":"0.4","task":"a","forked":"5:3","stopped":"waits","at":"9:10"},'
+     '"cell":{"name":"0.1","sort":"promise","made":"2:11"},"owner":"0.3"}]}\n'
+     '{"kind":"behind","wait":'
+     '{"task":{"name":"0","task":"main","forked":null,"stopped":"waits","at":"6:11"},'
+     '"cell":{"name":"0.1","sort":"promise","made":"2:11"},"owner":"0.3"}}\n'),
+    ("failures, an echo and a promise that is owed, as objects", "--all --json --short",
+     "task main() {\n  let t = fork bad();\n  join t;\n}\ntask bad() { let p = new; let x = 1 / 0; }\n",
+     '{"kind":"failed","task":{"name":"0.1","task":"bad","forked":"2:11","stopped":"failed","at":"5:27"},'
+     '"cause":"arith","cell":null}\n'
+     '{"kind":"owed","cell":{"name":"0.1.1","sort":"promise","made":"5:22"},'
+     '"task":{"name":"0.1","task":"bad","forked":"2:11","stopped":"failed","at":"5:27"}}\n'
+     '{"kind":"echo","task":{"name":"0","task":"main","forked":null,"stopped":"failed","at":"3:3"},'
+     '"cell":{"name":"0.1","sort":"task","made":"2:11"},'
+     '"origin":{"name":"0.1","task":"bad","forked":"2:11","stopped":"failed","at":"5:27"}}\n'),
+    ("a promise set twice by one task", "--short", "task main() {\n  let p = new;\n  set p = 1;\n  set p = 2;\n}\n",
+     "failed: 0 (task main) at 4:3: owner 0.1 (made at 2:11), set at 3:3\n"),
+    ("a promise that another task set", "--short", "task main() {\n  let p = new;\n  fork f(own p);\n  fork g(p);\n}\n"
+     "task f(p) {\n  set p = 1;\n}\ntask g(p) { let x = get p; set p = 2; }\n",
+     "failed: 0.3 (task g(0.1), forked at 4:3) at 9:28: owner 0.1 (made at 2:11), which 0.2 set at 7:3\n"),
+    ("a promise that another task owned where it stopped", "--short", "task main() {\n  let p = new;\n  fork g(p);\n}\n"
+     "task g(p) { set p = 2; }\n",
+     "failed: 0.2 (task g(0.1), forked at 3:3) at 5:13: owner 0.1 (made at 2:11), which 0 owned where it stopped\n"
+     "owed: the promise 0.1 (made at 2:11) was never set: 0 (task main) owned it and ended at 4:1\n"),
+    ("arguments of forty bytes, and longer ones, of which the beginning is told", "--short",
+     "task main() {\n  fork f(1000000000000, 2000000000000, 3000000000);\n"
+     "  fork f(1000000000000, 2000000000000, -300000000000);\n}\n"
+     "task f(a, b, c) { if c < 0 { let x = 1 / 0; } else { let y = 2 / 0; } }\n",
+     "failed: 0.1 (task f(1000000000000, 2000000000000, 3000000000), forked at 2:3) at 5:54: arith\n"
+     "failed: 0.2 (task f(1000000000000, 2000000000000, -3000000..), forked at 3:3) at 5:30: arith\n"),
 )
 
 BRANCHES = ("task main() { let n = 0; while n < 2 { if n { print 1; } else { print 2; print 3; } n = n + 1; } "
@@ -97,4 +165,48 @@ STANDS = (
     ("task main() { if 0 { while 1 { print 1; } } print 2; }", 1, 45),
     ("task main() { print 1; while 1 { } }", 1, 24),
     ("task main() { print 1; while 1 { } }", 1000, 24),
+)
+
+# Faults in words: what a row shows, the words of the command line, a text, and what is told of it.
+FAULTS = (
+    ("a name is missing, below a tab", "", "task main() {\n\tlet = 1;\n}\n",
+     "script fault P1 at 2:6\n\tlet = 1;\n\t    ^\n= stands here: a name is wanted\n"),
+    ("a semicolon is missing in front of a keyword", "--short", "task main() {\n  let x = 10\n  return x;\n}\n",
+     "script fault P1 at 3:3\n  return x;\n  ^\nreturn stands here: ; is missing after 2:12\n"),
+    ("and in front of an assignment", "--all", "task main() {\n  let x = 1\n  x = 2;\n}\n",
+     "script fault P1 at 3:3\n  x = 2;\n  ^\nx stands here: ; is missing after 2:11\n"),
+    ("an operator or a semicolon: nothing is said", "", "task main() { print 1 2; }",
+     "script fault P1 at 1:23\ntask main() { print 1 2; }\n                      ^\n2 stands here, which can't follow\n"),
+    ("a block is open where a task begins", "", "task main() {\n  if 1 {\n    print 1;\n}\ntask f() { }\n",
+     "script fault P1 at 5:1\ntask f() { }\n^\n"
+     "task stands here: } is missing, for the block that begins at 1:13\n"),
+    ("a block is open at the end, as a graph", "--dot", "task main() { while 1 { print 2; ",
+     "script fault P1 at 1:34\ntask main() { while 1 { print 2; \n                                 ^\n"
+     "the text ends here: } is missing, for the block that begins at 1:23\n"),
+    ("a parenthesis is open, and a block begins", "", "task main() { if (1 < 2 { } }",
+     "script fault P1 at 1:25\ntask main() { if (1 < 2 { } }\n                        ^\n"
+     "{ stands here: ) is missing after 1:23\n"),
+    ("no block behind else", "", "task main() { if 1 { } else if 2 { } }",
+     "script fault P1 at 1:29\ntask main() { if 1 { } else if 2 { } }\n                            ^\n"
+     "if stands here: { is missing after 1:27\n"),
+    ("no parameters behind a task's name", "", "task main { }",
+     "script fault P1 at 1:11\ntask main { }\n          ^\n{ stands here: ( is missing after 1:9\n"),
+    ("no task", "", "print 1;",
+     "script fault P1 at 1:1\nprint 1;\n^\nprint stands here: a task is wanted\n"),
+    ("an ask in an expression", "", "task main() { return fork main(); }",
+     "script fault P1 at 1:22\ntask main() { return fork main(); }\n                     ^\n"
+     "fork stands here: an expression is wanted\n"),
+    ("a byte order mark", "", "\ufefftask main() { }",
+     "script fault L1 at 1:1\n\ufefftask main() { }\n^\na byte order mark stands here: a script has none\n"),
+    ("a byte without a sign of its own", "", "task main() { \u00e9 }",
+     "script fault L1 at 1:15\ntask main() { \u00e9 }\n              ^\nthe byte 195 stands here: no token begins with it\n"),
+    ("a task that isn't declared", "", "task main() { fork f(); }",
+     "script fault P2 at 1:20\ntask main() { fork f(); }\n                   ^\nno task f is declared\n"),
+    ("a variable that isn't declared", "", "task main() { print f; }",
+     "script fault P2 at 1:21\ntask main() { print f; }\n                    ^\nno variable f is declared above\n"),
+    ("a task declared twice", "", "task main() { }\ntask main() { }",
+     "script fault P3 at 2:6\ntask main() { }\n     ^\na task main is declared above\n"),
+    ("no main", "", "task f() { }", "script fault P5 at 1:1\ntask f() { }\n^\nno task main is declared\n"),
+    ("a fault as an object, whose quote stands behind a backslash", "--json", "task main() { print \"; }",
+     '{"kind":"fault","fault":"L1","at":"1:21","words":"\\\" stands here: no token begins with it"}\n'),
 )

@@ -45,7 +45,7 @@ _tj() {
 complete -F _tj tj ./tj
 
 _tj_why() {
-    local word=${COMP_WORDS[COMP_CWORD]} before=${COMP_WORDS[COMP_CWORD - 1]} words='--cells --steps --strict --all --dot'
+    local word=${COMP_WORDS[COMP_CWORD]} before=${COMP_WORDS[COMP_CWORD - 1]} words='--cells --steps --strict --short --all --dot --json'
     case $before in
         '<') _tj_complete -f && return ;;
         --cells | --steps) return ;;

@@ -15,7 +15,7 @@ use Rattle.tj_eval.specs.Expressions.{held}
 use Rattle.tj_eval.specs.Stands.{Stand, AreNamed, stand_begun, stand_from, stand_of, stand_ask}
 use Rattle.tj_eval.specs.Stands.{IsAt, within, stand_after, decided}
 use Rattle.tj_eval.specs.Statements.{TaskState, Effect, goes_on, asks, fails, begun, then_effect, Next, next_from}
-use Rattle.tj_eval.specs.Statements.{next_of, next_ask, ended, asked, given, forked, value_in, number, reference}
+use Rattle.tj_eval.specs.Statements.{next_of, next_ask, failed, asked, given, forked, value_in, number, reference}
 use Rattle.tj_eval.specs.Statements.{arguments, reference_of, answered, next_after}
 use Rattle.tj_eval.proofs.Stands.{IsRightEffect, right_begun, rest_answered, IsSameRest}
 
@@ -123,7 +123,7 @@ module _ (all : List Statement) where
   asked_on : (n : ℕ) (t : TaskState) (z : Stand) → t.steps ≡ n → AreNamed all z.ahead t.rest
       → AsksAt all (stand_ask n t z).at t (next_ask n t).0
   asked_on zero t z m h = asked_of t z.decl z.at z.called t.rest z.ahead refl
-      (λ s rest. (ask.Fail trouble.Steps, ended (record t { rest = rest }))) (λ s rest w. w) h
+      (λ s rest. (ask.Fail trouble.Steps, failed (record t { rest = rest }))) (λ s rest w. w) h
       (λ s more k ns r at rest. at_once k t (ask.Fail trouble.Steps) (s ∷ more) zero r m (at, refl))
   asked_on (suc n) t z m h = asked_of t z.decl z.at z.called t.rest z.ahead refl
       (λ s rest. let on = record t { rest = rest; steps = n } in next_from on (begun on s) (next_ask n))

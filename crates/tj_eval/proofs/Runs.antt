@@ -8,11 +8,11 @@ use Rattle.tj_syntax.specs.Trees.{Statement}
 use Rattle.std.specs.Prelude.{Bool, true, false, Ok, Err}
 use Rattle.tj_eval.specs.declared.halt.Halt.TheVariants.{Fault}
 use Rattle.tj_eval.specs.Inner.Effects.{IsStep, is_ask}
-use Rattle.tj_eval.specs.Statements.{TaskState, ended, begun, next_from, next_of, next_ask}
+use Rattle.tj_eval.specs.Statements.{TaskState, ended, failed, begun, next_from, next_of, next_ask}
 
 -- where no statement is left the task ends, at no cost
 pub next_ask-done : (n : ℕ) (t : TaskState) → t.rest ≡ [] → next_ask n t ≡ (ask.End (pay.Num (pos 0)), ended t)
-next_ask-done zero t e = ap (λ z. next_of t z (λ s rest. (ask.Fail trouble.Steps, ended (record t { rest = rest })))) e
+next_ask-done zero t e = ap (λ z. next_of t z (λ s rest. (ask.Fail trouble.Steps, failed (record t { rest = rest })))) e
 next_ask-done (suc n) t e = ap (λ z. next_of t z
     (λ s rest. let on = record t { rest = rest; steps = n } in next_from on (begun on s) (next_ask n))) e
 
@@ -35,8 +35,9 @@ next_ask-begins old t s r e p = let same : t.steps ≡ old.steps = ap (λ z. z.s
 
 -- no statement may begin
 spent : (n : ℕ) (t : TaskState) (s : Statement) (rest : List Statement) → t.rest ≡ s ∷ rest → n ≡ 0
-    → next_ask n t ≡ (ask.Fail trouble.Steps, ended (record t { rest = rest }))
-spent zero t s rest e z = ap (λ w. next_of t w (λ s rest. (ask.Fail trouble.Steps, ended (record t { rest = rest })))) e
+    → next_ask n t ≡ (ask.Fail trouble.Steps, failed (record t { rest = rest }))
+spent zero t s rest e z =
+    ap (λ w. next_of t w (λ s rest. (ask.Fail trouble.Steps, failed (record t { rest = rest })))) e
 spent (suc n) t s rest e z = absurd (omega arith)
 
 not_both : true ≡ false → ⊥
@@ -45,9 +46,9 @@ not_both e = cc
 -- A statement is taken from those that remain.
 module _ (old t : TaskState) (s : Statement) (r : old.rest ≡ s ∷ t.rest) (e : t ≡ record old { rest = t.rest }) where
   -- where no statement may begin any more, the task fails
-  pub next_ask-spent : t.steps ≡ 0 → next_ask old.steps old ≡ (ask.Fail trouble.Steps, ended t)
+  pub next_ask-spent : t.steps ≡ 0 → next_ask old.steps old ≡ (ask.Fail trouble.Steps, failed t)
   next_ask-spent z = spent old.steps old s t.rest r (sym (ap (λ w. w.steps) e) ∙ z)
-      ∙ ap (λ w. (ask.Fail trouble.Steps, ended w)) (sym e)
+      ∙ ap (λ w. (ask.Fail trouble.Steps, failed w)) (sym e)
 
   module _ (p : 0 < t.steps) where
     abbrev on : TaskState
@@ -72,6 +73,6 @@ module _ (old t : TaskState) (s : Statement) (r : old.rest ≡ s ∷ t.rest) (e 
 
     -- where it fails, so does the task
     pub next_ask-fails : (fault : Trouble) (new : TaskState) → IsStep on s (Err (Fault fault)) new
-        → next_ask old.steps old ≡ (ask.Fail fault, ended new)
+        → next_ask old.steps old ≡ (ask.Fail fault, failed new)
     next_ask-fails fault new h = next_ask-begins old t s r e p
-        ∙ ap (λ z. next_from on z (next_ask (t.steps - 1))) h.0 ∙ ap (λ z. (ask.Fail fault, ended z)) (sym h.1)
+        ∙ ap (λ z. next_from on z (next_ask (t.steps - 1))) h.0 ∙ ap (λ z. (ask.Fail fault, failed z)) (sym h.1)

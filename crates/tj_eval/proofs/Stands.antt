@@ -22,7 +22,7 @@ use Rattle.tj_eval.specs.Expressions.{Computed, is_zero, held}
 use Rattle.tj_eval.specs.Statements.{TaskState, Effect, goes_on, asks, fails, begun, value_in, number, listed}
 use Rattle.tj_eval.specs.Statements.{otherwise, first, then_effect, reference, forked, fork_of, arguments, asked, given}
 use Rattle.tj_eval.specs.Statements.{Next, reference_of, Due, start, place, cell, cell_or, done, over, next_from}
-use Rattle.tj_eval.specs.Statements.{next_of, next_ask, ended, next_after, answered, answered_or_else, kept, kept_if}
+use Rattle.tj_eval.specs.Statements.{next_of, next_ask, failed, next_after, answered, answered_or_else, kept, kept_if}
 use Rattle.tj_eval.specs.Statements.{value_of, or_else_of}
 use Rattle.tj_eval.specs.Bodies.{script_asks}
 use Rattle.tj_eval.specs.Stands.{inside, within, within_other, numbers, other_numbers, Stand, IsAt, AreNamed, decided}
@@ -191,7 +191,7 @@ module _ (all : List Statement) where
     right_begun (tree.set_cell x e) at = right_then t z (reference (Ok (held t.vars x))) _ _ (stays t z h)
         (λ k. right_then t z (value_in t e) _ _ (stays t z h) (λ v. right_due t z done (ask.Set k v) z.called h tt))
     right_begun (tree.return e) at = right_then t z (value_in t e) _ _ (stays t z h)
-        (λ v. right_due t z over (ask.End v) z.called h tt)
+        (λ v. (record { named = h; script = refl; decl = refl }, tt))
     right_begun (tree.choose e body other) at = right_decided t z (number (value_in t e)) _ _ h
         (λ i. either (is_zero i) (other_numbers (suc z.at + length (within body)) other) (numbers (suc z.at) body)
         (otherwise other) (listed body) z.ahead t.rest (other_named (tree.choose e body other) body other refl at)
@@ -234,7 +234,7 @@ module _ (all : List Statement) where
   right_ask : (n : ℕ) (t : TaskState) (z : Stand) → AreNamed all z.ahead t.rest
       → IsRightNext t z (next_ask n t) (stand_ask n t z)
   right_ask zero t z h = right_of t z.decl z.at z.called t.rest z.ahead refl
-      (λ s rest. (ask.Fail trouble.Steps, ended (record t { rest = rest }))) (λ s rest w. w) h
+      (λ s rest. (ask.Fail trouble.Steps, failed (record t { rest = rest }))) (λ s rest w. w) h
       (λ s more n ns at k. (record { named = k; script = refl; decl = refl }, tt))
   right_ask (suc n) t z h = right_of t z.decl z.at z.called t.rest z.ahead refl
       (λ s rest. let on = record t { rest = rest; steps = n } in next_from on (begun on s) (next_ask n))

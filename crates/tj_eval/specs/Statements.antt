@@ -57,9 +57,13 @@ pub data Effect : Type 0 where
   asks : Ask TaskState → TaskState → Effect
   fails : Trouble → Effect
 
--- a task that has ended awaits nothing any more
+-- a task that has ended awaits nothing any more, and has no variables
 abbrev pub ended : TaskState → TaskState
-ended t = record t { due = over }
+ended t = record t { vars = []; due = over }
+
+-- a task that has failed awaits nothing any more, and its variables hold what they held
+abbrev pub failed : TaskState → TaskState
+failed t = record t { due = over }
 
 -- the task with the value in the variable, if there is one for it
 abbrev pub kept : Option ℕ → Pay → TaskState → TaskState
@@ -202,7 +206,7 @@ Next = Ask TaskState × TaskState
 abbrev pub next_from : TaskState → Effect → (TaskState → Next) → Next
 next_from t (goes_on new) go = go new
 next_from t (asks a new) go = (a, new)
-next_from t (fails fault) go = (ask.Fail fault, ended t)
+next_from t (fails fault) go = (ask.Fail fault, failed t)
 
 -- the next ask where no statement is left, or where one begins
 abbrev pub next_of : TaskState → List Statement → (Statement → List Statement → Next) → Next
@@ -211,7 +215,7 @@ next_of t (s ∷ rest) go = go s rest
 
 -- the next ask, where so many statements may still begin; a statement that can't is no longer among those that remain
 abbrev pub next_ask : ℕ → TaskState → Next
-next_ask zero t = next_of t t.rest (λ s rest. (ask.Fail trouble.Steps, ended (record t { rest = rest })))
+next_ask zero t = next_of t t.rest (λ s rest. (ask.Fail trouble.Steps, failed (record t { rest = rest })))
 next_ask (suc n) t = next_of t t.rest
     (λ s rest. let on = record t { rest = rest; steps = n } in next_from on (begun on s) (next_ask n))
 
@@ -255,7 +259,7 @@ answered t over a = Ok t
 -- the next ask of a task that has taken its answer, or has failed at it
 abbrev pub next_after : TaskState → Result TaskState Trouble → Next
 next_after t (Ok new) = next_ask new.steps new
-next_after t (Err fault) = (ask.Fail fault, ended t)
+next_after t (Err fault) = (ask.Fail fault, failed t)
 
 -- what the task asks for the answer, and what it is from then on
 abbrev pub next : TaskState → Answer → Next

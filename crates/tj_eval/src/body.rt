@@ -156,7 +156,7 @@ impl<'s> State<'s> {
         match self.go_on()? {
             Some(stmt) => self.begin(alloc, stmt),
             None => {
-                self.end();
+                self.end(alloc);
                 Ok(Ask::End(Pay::Num(0)))
             }
         }
@@ -192,12 +192,12 @@ impl<'s> State<'s> {
         })
     }
 
-    /// Fails.
+    /// Fails, and keeps what its variables hold.
     pub(crate) fn fail(&mut self, fault: Trouble) -> Ask<ScriptBody<'s>>
         ensures ask { result ≡ Ask.Fail fault }
-        ensures ended { self.new ≡ state.ended self.old }
+        ensures failed { self.new ≡ state.failed self.old }
     {
-        self.end();
+        self.due = Due::Over;
         Ask::Fail(fault)
     }
 }

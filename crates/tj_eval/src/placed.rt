@@ -147,7 +147,7 @@ impl<'s> Standing<'s> {
         match self.go_on()? {
             Some(stmt) => self.body.begin(alloc, stmt),
             None => {
-                self.body.end();
+                self.body.end(alloc);
                 Ok(Ask::End(Pay::Num(0)))
             }
         }
@@ -305,6 +305,14 @@ impl PlacedBody<'_> {
         ensures { result ≡ self.now.stand.decl }
     {
         self.inner.home.decl
+    }
+
+    /// What its variables hold.
+    pub fn vars(&self) -> &[Pay]
+        // It tells what the variables of its task hold: at the beginning the arguments, and then 0s.
+        ensures { result.now ≡ self.now.task.vars }
+    {
+        self.inner.body.vars.as_slice()
     }
 
     /// How many places its task has: a new reference gets this number.

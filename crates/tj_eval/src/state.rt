@@ -4,6 +4,7 @@ ghost use Rattle.std.specs.Prelude.{◌≡◌, [], ◌∷◌, ◌++◌, if◌the
 ghost use Rattle.tj_syntax.specs.View.{block, statement};
 ghost use Rattle.tj_eval.specs.Statements as state;
 
+use std::alloc::Global;
 use std::marker::Model;
 use tj_base::{Oom, Pay};
 use tj_syntax::{Block, Expr, Script, Stmt};
@@ -148,11 +149,12 @@ impl<'s> State<'s> {
         }
     }
 
-    /// Lets the task await nothing any more. What it holds stays until the body is dropped, so that
-    /// the end takes no time of its own.
-    pub(crate) fn end(&mut self)
+    /// Lets the task await nothing any more. Its variables are given back, so that the next task
+    /// takes their memory; what else it holds stays until the body is dropped.
+    pub(crate) fn end(&mut self, alloc: Global)
         ensures { self.new ≡ state.ended self.old }
     {
         self.due = Due::Over;
+        self.vars = Vec::new(alloc);
     }
 }

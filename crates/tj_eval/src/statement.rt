@@ -120,7 +120,7 @@ impl<'s> State<'s> {
             }
             Stmt::Return(e) => {
                 let v = value(&self.vars, e)?;
-                self.end();
+                self.end(alloc);
                 Ok(Ask::End(v))
             }
             _ => unreachable!(),

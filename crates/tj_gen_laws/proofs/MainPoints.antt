@@ -170,10 +170,17 @@ module _ (size limit : ℕ) where
     owed = [];
   }
 
+  -- what the variables hold once a task has closed so: a task that has ended has none
+  abbrev pub held_on : Close → List Pay → List Pay
+  held_on (close.Done v) vars = []
+  held_on (close.Failed c) vars = vars
+
   -- main where it has stopped
   abbrev pub main_stopped : (i : ℕ) → (t : Pay) → List Statement → (steps places : ℕ) → Close → Entry → Point TaskState
   main_stopped i t rest steps places end result = record (behind i rest t (pay.Num (pos (sum_to i))) steps places over
       (stage.Closed end) (pos (sum_to i) ∷ [])) {
+        body = state rest (held_on end (pay.Ref 1 ∷ pay.Ref (last_place i) ∷ pay.Ref (last_place i) ∷ t
+            ∷ pay.Num (pos (sum_to i)) ∷ [])) steps places over;
         writes = (first, entry.Value (value.Num (pos 0))) ∷ ([], result) ∷ [];
       }
 
@@ -198,7 +205,7 @@ module _ (size limit : ℕ) where
   -- the same where it has stopped: it has set its promise, and ended with its number
   abbrev pub node_stopped : (i left places : ℕ) → Point TaskState
   node_stopped i left places =
-      node_at i [] (pay.Num (pos (sum_to i))) left places over
+      record (node_at i [] (pay.Num (pos (sum_to i))) left places over
       (stage.Closed (close.Done (value.Num (pos (suc i))))) []
       ((promised i, entry.Value (value.Num (pos (sum_to (suc i))))) ∷
-      (forked i, entry.Value (value.Num (pos (suc i)))) ∷ [])
+      (forked i, entry.Value (value.Num (pos (suc i)))) ∷ [])) { body = state [] [] left places over }

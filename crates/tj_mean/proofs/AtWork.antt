@@ -7,3 +7,4 @@ pub mod PointSteps
 pub mod RoundSteps
 pub mod TakenUp
 pub mod TasksAtWork
+pub mod UnansweredTasks

@@ -50,7 +50,7 @@ AreTold ps ss = map stopped_of ps ≡ map Some ss
 
 -- the same, with what its body is then
 abbrev pub body_of : {B : Type 0} → Point B → Option (StoppedBody B)
-body_of p = option_map (λ s. record { told = s; body = p.body }) (stopped_of p)
+body_of p = option_map (λ s. record { told = s; body = p.body; references = p.references }) (stopped_of p)
 
 -- this is told of the histories, in some order, with what the bodies are where they stopped
 abbrev pub AreBodiesOf : {B : Type 0} → List (Point B) → List (StoppedBody B) → Type 0

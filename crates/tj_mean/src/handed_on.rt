@@ -12,7 +12,7 @@ use std::alloc::Global;
 use std::collections::BTreeMap;
 use std::mem::replace;
 use tj_base::{Items, Name, Oom};
-use tj_body::{Body, Entry, Point, PointStage, Task};
+use tj_body::{Body, Entry, Point, Task};
 
 /// What a task has forked and written.
 #[derive(Drop)]
@@ -21,18 +21,14 @@ pub struct HandedOn<B> {
     pub writes: Vec<(Name, Entry)>,
 }
 
-/// Takes out of the point what the task has forked and written. If it has ended, its references,
-/// which nobody reads any more, are dropped.
+/// Takes out of the point what the task has forked and written.
 pub fn hand_on<B: Body>(alloc: Global, p: &mut Point<B>) -> HandedOn<B>
     ensures children { result.children.items ≡ p.old.children }
     ensures writes { result.writes.items ≡ p.old.writes }
-    ensures emptied { p.new ≡ emptied p.old.stage p.old }
+    ensures emptied { p.new ≡ emptied p.old }
 {
     let children = replace(&mut p.children, Items::of(Vec::new(alloc))).into_vec();
     let writes = replace(&mut p.writes, Items::of(Vec::new(alloc))).into_vec();
-    if let PointStage::Closed(_) = &p.stage {
-        p.references = Items::of(Vec::new(alloc));
-    }
     HandedOn { children, writes }
 }
 

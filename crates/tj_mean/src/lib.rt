@@ -17,6 +17,7 @@ mod round;
 mod rounds;
 mod stopped;
 mod told;
+mod unanswered;
 mod wait_graph;
 
 pub use act::{Act, ActLine, ActLines, ActList};

@@ -23,6 +23,7 @@ use crate::outcome::{Outcome, PlanFault};
 use crate::round::root_task;
 use crate::stopped::{StoppedBody, bodies_of, told_of};
 use crate::told::outcome_of;
+use crate::unanswered::is_full_early;
 use std::alloc::Global;
 use std::collections::BTreeMap;
 use tj_base::{Name, Oom};
@@ -117,7 +118,19 @@ pub fn at_rest<B: Body>(
     let mut given = BTreeMap::new(alloc);
     let mut left = cells - 1;
     let mut agenda = Agenda::new(alloc);
+    let mut looked = false;
     while let Some(at) = agenda.next(points.as_slice(), &given) {
+        if is_full_early(
+            alloc,
+            root,
+            cells,
+            strict,
+            points.as_slice(),
+            at,
+            &mut looked,
+        )? {
+            return Err(PlanFault::Full);
+        }
         let most = points[at].made + left;
         go_on(alloc, &mut points[at], &given, strict, most)?;
         left = most - points[at].made;

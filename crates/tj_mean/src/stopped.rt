@@ -7,7 +7,7 @@ ghost use Rattle.tj_mean.specs.Outcomes.{AreTold};
 use crate::outcome::{Ending, TaskLine};
 use std::alloc::Global;
 use tj_base::{NameList, Oom, Shown};
-use tj_body::{Body, Close, Point, PointStage, Value};
+use tj_body::{Body, Close, Point, PointStage, ReferenceList, Value};
 
 /// A task whose history has stopped.
 #[derive(Drop)]
@@ -22,6 +22,8 @@ pub struct Stopped {
 pub struct StoppedBody<B> {
     pub told: Stopped,
     pub body: B,
+    /// What its places refer to.
+    pub references: ReferenceList,
 }
 
 /// What is told of tasks that have stopped at these points, with their bodies.
@@ -56,6 +58,7 @@ fn body_of<B: Body>(point: Point<B>) -> StoppedBody<B>
             holds: point.holds,
         },
         body: point.body,
+        references: point.references,
     }
 }
 

@@ -1,6 +1,7 @@
 pub mod Taken
 pub mod Repeats
 pub mod Unrolls
+pub mod Alone
 pub mod Views
 pub mod Sends
 pub mod Naming

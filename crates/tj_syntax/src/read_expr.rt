@@ -51,6 +51,28 @@ fn relation(token: Option<&Tok>) -> Option<Rel>
     }
 }
 
+/// Whether the token is an operand by itself.
+#[inline(always)]
+fn is_leaf(token: &Tok) -> bool
+    ensures { result ≡ reading.is_leaf token.now }
+{
+    match token {
+        Tok::Num(_) | Tok::Name(_) | Tok::Key(Key::Me) => true,
+        _ => false,
+    }
+}
+
+/// Whether an expression ends in front of the token.
+#[inline(always)]
+fn ends_expression(token: &Tok) -> bool
+    ensures { result ≡ reading.ends_expression token.now }
+{
+    match token {
+        Tok::Mark(Mark::Semi | Mark::Comma | Mark::ParenClose | Mark::BraceOpen) => true,
+        _ => false,
+    }
+}
+
 fn negation(alloc: Global, x: Expr) -> Result<Expr, AllocError>
     ensures { IfOk result (λ e. expression e ≡ tree.negation (expression x)) }
 {
@@ -77,13 +99,27 @@ fn chained(alloc: Global, x: Expr, pairs: Vec<(Op, Expr)>) -> Result<Expr, Alloc
 }
 
 impl<'t> Parser<'t> {
-    /// A sum, or two sums with a comparison between them.
+    /// Whether the next token is an expression by itself.
+    #[inline(always)]
+    fn stands_alone(&self) -> bool
+        ensures { result ≡ reading.stands_alone (input_of self.now).ahead }
+    {
+        match self.rest {
+            [operand, behind, ..] => is_leaf(&operand.what) && ends_expression(&behind.what),
+            _ => false,
+        }
+    }
+
+    /// A sum, or two sums with a comparison between them. Most are one token, which is read at once.
     #[cycle(expression)]
     #[tactic(auto, unfolding(crate::specs::Inner::Reading::expression_over))]
     pub(crate) fn expression(&mut self, room: u32) -> Result<Expr, Stop>
         ensures { Reads expression (reading.expression room (input_of self.old))
             result (input_of self.new) }
     {
+        if self.stands_alone() {
+            return self.unary(room);
+        }
         let x = self.chain(Level::Sums, room)?;
         match relation(self.peek()) {
             Some(rel) => {

@@ -13,7 +13,7 @@ use Rattle.tj_eval.specs.Expressions.{held}
 use Rattle.tj_eval.specs.Stands.{Stand, PlacedState, AreNamed, IsAt, callee, placed_then, stand_after, stand_begun}
 use Rattle.tj_eval.specs.Stands.{stand_from, stand_of, stand_ask}
 use Rattle.tj_eval.specs.Statements.{TaskState, Effect, goes_on, asks, fails, begun, then_effect, Next, next_from}
-use Rattle.tj_eval.specs.Statements.{next_of, next_ask, ended, asked, forked, value_in, number, reference, arguments}
+use Rattle.tj_eval.specs.Statements.{next_of, next_ask, failed, asked, forked, value_in, number, reference, arguments}
 use Rattle.tj_eval.specs.Statements.{reference_of, answered, next_after}
 use Rattle.tj_eval.proofs.Stands.{ChildOf, IsRightEffect, IsSameRest, right_begun, right_after, rest_answered}
 use Rattle.tj_trace.specs.RightLines.{IsGet, IsJoin, IsSet, IsReturn}
@@ -141,7 +141,7 @@ module _ (all : List Statement) where
   there_on : (n : ℕ) (t : TaskState) (z : Stand) → AreNamed all z.ahead t.rest
       → IsThere (stand_ask n t z) (next_ask n t).0
   there_on zero t z h = there_of t z.decl z.at z.called t.rest z.ahead
-      (λ s rest. (ask.Fail trouble.Steps, ended (record t { rest = rest }))) (λ s rest w. w) h
+      (λ s rest. (ask.Fail trouble.Steps, failed (record t { rest = rest }))) (λ s rest w. w) h
       (λ s more k ns at rest. inl (s, is_numbered all k s at, tt))
   there_on (suc n) t z h = there_of t z.decl z.at z.called t.rest z.ahead
       (λ s rest. let on = record t { rest = rest; steps = n } in next_from on (begun on s) (next_ask n))

@@ -1,10 +1,9 @@
 -- Each line of a trace is that of a task's history, and each task has one.
 use Rattle.tj_trace.proofs.LoggedRules.{rules}
-use Rattle.tj_trace.proofs.Prelude.{AreTraced, Assignment, Bool, Ending, IsIn, List, Logged, None, Option, PlacedState}
-use Rattle.tj_trace.proofs.Prelude.{Point, PointStage, Some, Task, TraceLine, ap, ending_of, given, history}
-use Rattle.tj_trace.proofs.Prelude.{in_permuted, in_unpermuted, last_round, line_of, line_with}
-use Rattle.tj_trace.proofs.Prelude.{logged_program, meaning}
-use Rattle.tj_trace.proofs.Prelude.{option_map, refl, subst, sym, tasks, to_map, ℕ, ◌∙◌, ◌≡◌}
+use Rattle.tj_trace.proofs.Prelude.{AreTraced, Assignment, Bool, Ending, IsIn, List, Logged, None, Option}
+use Rattle.tj_trace.proofs.Prelude.{PlacedState, Point, PointStage, Some, Task, TraceLine, ap, ending_of, given}
+use Rattle.tj_trace.proofs.Prelude.{history, in_permuted, in_unpermuted, last_round, line_in, line_of, logged_program}
+use Rattle.tj_trace.proofs.Prelude.{meaning, option_map, refl, subst, sym, tasks, to_map, ℕ, ◌∙◌, ◌≡◌}
 use Rattle.tj_body.proofs.Lists.{in_map}
 use Rattle.tj_body.proofs.Rounds.Families.{same_name}
 use Rattle.tj_trace.proofs.Noted.{notes_at}
@@ -20,14 +19,14 @@ some_is x y e = cc
 
 -- the line of a task with this history and this end
 abbrev pub ended_line : Point Logged → Ending → TraceLine
-ended_line p e = line_with p.body
+ended_line p e = line_in p
     (record { line = record { name = p.name; prints = p.prints; ending = e; owes = p.owed }; holds = p.holds })
 
 -- a history with a line has ended so
 pub line_is : (p : Point Logged) (l : TraceLine) → line_of p ≡ Some l
     → (e : Ending) × (ending_of p.stage ≡ Some e) × (ended_line p e ≡ l)
 line_is p l = by (ending_of p.stage) where
-  by : (o : Option Ending) → option_map (line_with p.body) (option_map
+  by : (o : Option Ending) → option_map (line_in p) (option_map
       (λ e. record { line = record { name = p.name; prints = p.prints; ending = e; owes = p.owed }; holds = p.holds })
       o) ≡ Some l → (e : Ending) × (o ≡ Some e) × (ended_line p e ≡ l)
   by None h = absurd (not_none l h)
@@ -39,7 +38,7 @@ notes_of_ended (stage.Answered a) e x h = absurd (not_none e h)
 notes_of_ended z e x h = refl
 
 module _ (strict : Bool) (root : PlacedState) (N : ℕ) where
-  abbrev V : Assignment
+  abbrev pub V : Assignment
   V = given (logged_program strict root) (last_round N)
 
   abbrev all_tasks : List (Task Logged)

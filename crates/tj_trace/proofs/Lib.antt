@@ -13,3 +13,7 @@ pub mod OwnersOne
 pub mod OneTrace
 pub mod Prelude
 pub mod LoggedRules
+pub mod PromisePlaces
+pub mod SetsThere
+pub mod HandsThere
+pub mod LineParts

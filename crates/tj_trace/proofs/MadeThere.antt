@@ -1,13 +1,13 @@
 -- What a line tells is read off the history of the task that knows where it stands.
 use Rattle.tj_trace.proofs.LoggedRules.{rules}
-use Rattle.tj_trace.proofs.Prelude.{Ask, Assignment, Bool, Cause, Entry, Err, IsIn, List, Logged, Maker, Name, None, Ok}
-use Rattle.tj_trace.proofs.Prelude.{Option, Point, PointStage, Reference, Result, Rules, Some, Sort, Task, Value, []}
-use Rattle.tj_trace.proofs.Prelude.{after_ask, after_failure, after_get, after_join, after_look, after_new, after_read}
-use Rattle.tj_trace.proofs.Prelude.{after_set, after_stage, after_try_fork, after_write, ap, arith, before, cond, false}
-use Rattle.tj_trace.proofs.Prelude.{given, hand_all, has, last_round, length, length-append, logged}
-use Rattle.tj_trace.proofs.Prelude.{logged_left, logged_program, logged_then, made_by}
-use Rattle.tj_trace.proofs.Prelude.{maker_here, map, not, point_after, reference, refl, root_task, rules_of, subst, suc}
-use Rattle.tj_trace.proofs.Prelude.{sym, tasks, true, with_wait, zero, ℕ, ◌&&◌, ◌*◌, ◌++◌, ◌+◌, ◌∙◌, ◌∷◌, ◌≡◌}
+use Rattle.tj_trace.proofs.Prelude.{Ask, Assignment, Bool, Cause, Entry, Err, IsIn, List, Logged, Maker, Name, None}
+use Rattle.tj_trace.proofs.Prelude.{Ok, Option, Point, PointStage, Reference, Result, Rules, Some, Sort, Task, Value}
+use Rattle.tj_trace.proofs.Prelude.{[], after_ask, after_failure, after_get, after_join, after_look, after_new}
+use Rattle.tj_trace.proofs.Prelude.{after_read, after_set, after_stage, after_try_fork, after_write, ap, arith}
+use Rattle.tj_trace.proofs.Prelude.{before, cond, false, given, hand_all, has, history, last_round, length}
+use Rattle.tj_trace.proofs.Prelude.{length-append, logged, logged_left, logged_program, logged_then, made_by}
+use Rattle.tj_trace.proofs.Prelude.{maker_here, map, not, point_after, reference, refl, root_task, rules_of, subst}
+use Rattle.tj_trace.proofs.Prelude.{suc, sym, tasks, true, with_wait, zero, ℕ, ◌&&◌, ◌*◌, ◌++◌, ◌+◌, ◌∙◌, ◌∷◌, ◌≡◌}
 use Rattle.std.proofs.Common.{nat_eq, append-nil, eq-eqb}
 use Rattle.std.proofs.lemmas.Bool.{ne_eqb}
 use Rattle.tj_body.specs.SeenAs.{ask_as, task_as, point_as, AreSeenAs}
@@ -15,19 +15,21 @@ use Rattle.tj_body.proofs.Lists.{in_map}
 use Rattle.tj_body.proofs.SeenAs.{histories_seen, rounds_seen}
 use Rattle.tj_body.proofs.Rounds.Rises.{one_of_all}
 use Rattle.tj_eval.specs.Stands.{PlacedState, placed_places, placed_awaits, placed_left, placed_asks, placed_then}
+use Rattle.tj_body.specs.History.{to_task}
 use Rattle.tj_trace.specs.MadeAt.{placed_program, made_here, made_between, made_until, IsLineOf, LinesAreOfStands}
-use Rattle.tj_trace.proofs.Noted.{family_fresh, notes_at}
+use Rattle.tj_trace.specs.MadeAt.{set_between, set_until, values_of}
+use Rattle.tj_trace.specs.Traces.{held_at, set_of}
+use Rattle.tj_trace.proofs.Noted.{IsLogged, family_fresh, notes_at}
 use Rattle.tj_trace.proofs.HasLines.{HasLine, of_line, line_name, line_makers, line_stand}
+use Rattle.tj_trace.proofs.LineParts.{line_sets, line_began, line_held}
+use Rattle.tj_trace.proofs.PromisePlaces.{ArePromises, set_places}
+use Rattle.tj_trace.proofs.SetsThere.{began_there, place, sets_of_point, step_sets}
 use Rattle.tj_base.specs.declared.cell.Sort.TheVariants as sort
 use Rattle.tj_base.specs.declared.cause.Cause.TheVariants as cause
 use Rattle.tj_body.specs.declared.ask.Ask.TheVariants as ask
 use Rattle.tj_body.specs.declared.point.Value.TheVariants as value
 use Rattle.tj_body.specs.declared.point.Entry.TheVariants as entry
 use Rattle.tj_body.specs.declared.point.PointStage.TheVariants as stage
-
--- a task without its notes
-abbrev place : Logged → PlacedState
-place x = x.placed
 
 place_ask : (q : Ask PlacedState) → q ≡ ask_as place (ask_as logged q)
 place_ask ask.New = refl
@@ -164,6 +166,29 @@ module _ (strict : Bool) where
       ∙ ap (λ z. made_until bare V (task_as place t) k ++ made_between (point_after bare V k (task_as place t)) z)
       (sym (seen (suc k)))
 
+  -- what was set after so many steps
+  set_by_then : (V : Assignment) (t : Task Logged) → IsLogged t → (k : ℕ)
+      → let p = point_after (rules strict) V k t in
+      (map (set_of p.name p.references) (sets_of_point p) ≡ set_until bare V (task_as place t) k)
+      × ArePromises p.name p.references (set_places (sets_of_point p))
+  set_by_then V t e zero = (
+    ap (λ (x : Logged). map (set_of t.name (to_task t.name ∷ t.passed)) x.sets) e,
+    subst (λ (x : Logged). ArePromises t.name (to_task t.name ∷ t.passed) (set_places x.sets)) (sym e) tt,
+  )
+  set_by_then V t e (suc k) =
+      let p = point_after (rules strict) V k t in
+      let q = point_after (rules strict) V (suc k) t in
+      let seen = (histories_seen place (rules strict) bare (placed_seen strict) V t).0 in
+      let before = set_by_then V t e k in
+      let on = step_sets strict V p.stage p refl before.1 in (
+        on.sets
+            ∙ ap (λ ns. ns ++ set_between (point_as place p) (point_as place q)) before.0
+            ∙ ap (λ z. set_until bare V (task_as place t) k ++ set_between z (point_as place q)) (sym (seen k))
+            ∙ ap (λ z. set_until bare V (task_as place t) k
+            ++ set_between (point_after bare V k (task_as place t)) z) (sym (seen (suc k))),
+        on.promises,
+      )
+
 -- the law
 pub lines_are_of_stands : (strict : Bool) (root : PlacedState) → LinesAreOfStands strict root
 lines_are_of_stands strict root N lines traced l i t there name =
@@ -178,7 +203,7 @@ lines_are_of_stands strict root N lines traced l i t there name =
     let same : t ≡ task_as place k.0 = u.2 ∙ ap (task_as place) one in
     subst (λ z. IsLineOf (bare strict) (given bare_p n) z l) (sym same)
     (subst (λ W. IsLineOf (bare strict) W (task_as place k.0) l) (sym seen.given) (told k.0 k.1)) where
-      fresh : (n : ℕ) (t : Task Logged) → IsIn t (tasks (logged_program strict root) n) → t.body.makers ≡ []
+      fresh : (n : ℕ) (t : Task Logged) → IsIn t (tasks (logged_program strict root) n) → IsLogged t
       fresh zero t i = absurd i
       fresh (suc n) t i = family_fresh strict (given (logged_program strict root) n) (suc n)
           (root_task (logged root)) refl t i
@@ -188,9 +213,18 @@ lines_are_of_stands strict root N lines traced l i t there name =
       told t h =
           let V = given (logged_program strict root) (last_round N) in
           let seen = (histories_seen place (rules strict) (bare strict) (placed_seen strict) V t).1 in
+          let last = 2 * suc (logged_left t.body) in
           let z = line_stand strict root N t l h in record {
             decl = z.0 ∙ ap (λ (q : Point PlacedState). q.body.stand.decl) (sym seen);
             at = z.1 ∙ ap (λ (q : Point PlacedState). q.body.stand.at) (sym seen);
             makers = line_makers strict root N t l h
-                ∙ noted_until strict V t (fresh (last_round N) t h.there) (2 * suc (logged_left t.body));
+                ∙ noted_until strict V t (ap (λ (x : Logged). x.makers) (fresh (last_round N) t h.there)) last;
+            sets = line_sets strict root N t l h
+                ∙ (set_by_then strict V t (fresh (last_round N) t h.there) last).0;
+            began = line_began strict root N t l h
+                ∙ ap (values_of (point_as place (history (rules strict) V t))) (began_there strict V t last
+                ∙ ap (λ (x : Logged). x.began) (fresh (last_round N) t h.there))
+                ∙ ap (λ (q : Point PlacedState). values_of q t.body.placed.task.vars) (sym seen);
+            held = line_held strict root N t l h
+                ∙ ap (λ (q : Point PlacedState). held_at l.line.ending (values_of q q.body.task.vars)) (sym seen);
           }

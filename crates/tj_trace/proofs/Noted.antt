@@ -1,11 +1,12 @@
 -- What a task made is what its notes tell, step by step.
 use Rattle.tj_trace.proofs.LoggedRules.{rules}
-use Rattle.tj_trace.proofs.Prelude.{Ask, Assignment, Bool, Cause, Entry, Err, IsIn, List, Logged, Maker, Name, None, Ok}
-use Rattle.tj_trace.proofs.Prelude.{Option, Point, PointStage, Reference, Some, Sort, Task, TraceLine, Value, []}
-use Rattle.tj_trace.proofs.Prelude.{after_ask, after_get, after_join, after_look, after_new, after_read, after_set, ap}
-use Rattle.tj_trace.proofs.Prelude.{ask_as, before, child, cond, ending_of, hand_all, has, history, inl, inr, line_with}
-use Rattle.tj_trace.proofs.Prelude.{logged, logged_then, maker_here, map, not, option_map, reference, refl, root_task}
-use Rattle.tj_trace.proofs.Prelude.{suc, sym, true, with_wait, zero, ℕ, ◌&&◌, ◌*◌, ◌++◌, ◌+◌, ◌∙◌, ◌∷◌, ◌≡◌}
+use Rattle.tj_trace.proofs.Prelude.{Ask, Assignment, Bool, Cause, Entry, Err, IsIn, List, Logged, Maker, Name, None}
+use Rattle.tj_trace.proofs.Prelude.{Ok, Option, Point, PointStage, Reference, Some, Sort, Task, TraceLine, Value, []}
+use Rattle.tj_trace.proofs.Prelude.{after_ask, after_get, after_join, after_look, after_new, after_read, after_set}
+use Rattle.tj_trace.proofs.Prelude.{ap, ask_as, before, child, cond, ending_of, hand_all, has, history, inl, inr}
+use Rattle.tj_trace.proofs.Prelude.{line_in, logged, logged_then, maker_here, map, not, option_map, reference, refl}
+use Rattle.tj_trace.proofs.Prelude.{root_task, suc, sym, true, with_wait, zero, ℕ, ◌&&◌, ◌*◌, ◌++◌, ◌+◌, ◌∙◌, ◌∷◌}
+use Rattle.tj_trace.proofs.Prelude.{◌≡◌}
 use Rattle.std.proofs.Common.{false, length, Result, subst, arith, ⊎_elim, append-nil}
 use Rattle.std.proofs.lemmas.List.{length-append, map-append}
 use Rattle.std.specs.List.{flat_map}
@@ -57,9 +58,13 @@ thing_behind s x ms m =
       none : (k : ℕ) → 0 + k ≡ k
       none k = omega arith
 
+-- a task that has asked nothing yet
+abbrev pub IsLogged : Task Logged → Type 0
+IsLogged t = t.body ≡ logged t.body.placed
+
 -- the tasks have asked nothing yet
 abbrev pub AreFresh : List (Task Logged) → Type 0
-AreFresh ts = (t : Task Logged) → IsIn t ts → t.body.makers ≡ []
+AreFresh ts = (t : Task Logged) → IsIn t ts → IsLogged t
 
 -- what the task has noted once it has taken the answer that this stage holds
 abbrev pub notes_at : PointStage → Logged → List Maker
@@ -126,8 +131,8 @@ fork_noted b passed handed (Ok left) p e h =
           (task_more p.name p.body.makers _ _ p.made p.promises p.children t refl h.made);
       children = λ c i. ⊎_elim (h.children c) (λ j. one c t refl j) (in_either c p.children (t ∷ []) i);
     } where
-      one : (c t : Task Logged) → t.body.makers ≡ [] → IsIn c (t ∷ []) → c.body.makers ≡ []
-      one c t f (inl e) = ap (λ (z : Task Logged). z.body.makers) e ∙ f
+      one : (c t : Task Logged) → IsLogged t → IsIn c (t ∷ []) → IsLogged c
+      one c t f (inl e) = subst IsLogged (sym e) f
       one c t f (inr i) = absurd i
 
 set_noted : (s : Sort) (q : Name) (v : Value) (p : Point Logged) → IsTaken p → IsWhole (after_set s q v p)
@@ -193,24 +198,24 @@ module _ (strict : Bool) where
   stage_noted V (stage.Waits q spare) p e h = look_noted spare q (V q) p e h
   stage_noted V (stage.Closed c) p e h = h
 
-  point_noted : (V : Assignment) (t : Task Logged) → t.body.makers ≡ [] → (k : ℕ)
+  point_noted : (V : Assignment) (t : Task Logged) → IsLogged t → (k : ℕ)
       → IsWhole (point_after (rules strict) V k t)
   point_noted V t e zero = record {
     made = record {
-      each = ap length e;
-      all_promises = ap (things sort.Promise t.name 0) e;
-      all_children = ap (things sort.Task t.name 0) e;
+      each = ap (λ (x : Logged). length x.makers) e;
+      all_promises = ap (λ (x : Logged). things sort.Promise t.name 0 x.makers) e;
+      all_children = ap (λ (x : Logged). things sort.Task t.name 0 x.makers) e;
     };
     children = λ c i. absurd i;
   }
   point_noted V t e (suc k) =
       let p = point_after (rules strict) V k t in stage_noted V p.stage p refl (point_noted V t e k)
 
-  history_noted : (V : Assignment) (t : Task Logged) → t.body.makers ≡ [] → IsWhole (history (rules strict) V t)
+  history_noted : (V : Assignment) (t : Task Logged) → IsLogged t → IsWhole (history (rules strict) V t)
   history_noted V t e = point_noted V t e (2 * suc (logged_left t.body))
 
   each_fresh : (V : Assignment) (d : ℕ)
-      → ((t : Task Logged) → t.body.makers ≡ [] → AreFresh (family (rules strict) V d t)) → (ts : List (Task Logged))
+      → ((t : Task Logged) → IsLogged t → AreFresh (family (rules strict) V d t)) → (ts : List (Task Logged))
       → AreFresh ts → AreFresh (flat_map (family (rules strict) V d) ts)
   each_fresh V d go [] f c i = absurd i
   each_fresh V d go (u ∷ ts) f c i = ⊎_elim (λ j. go u (f u (inl refl)) c j)
@@ -218,11 +223,11 @@ module _ (strict : Bool) where
       (in_either c (family (rules strict) V d u) (flat_map (family (rules strict) V d) ts) i)
 
   -- the tasks that come from one have asked nothing
-  pub family_fresh : (V : Assignment) (d : ℕ) (t : Task Logged) → t.body.makers ≡ []
+  pub family_fresh : (V : Assignment) (d : ℕ) (t : Task Logged) → IsLogged t
       → AreFresh (family (rules strict) V d t)
-  family_fresh V zero t e c (inl f) = ap (λ (z : Task Logged). z.body.makers) f ∙ e
+  family_fresh V zero t e c (inl f) = subst IsLogged (sym f) e
   family_fresh V zero t e c (inr i) = absurd i
-  family_fresh V (suc d) t e c (inl f) = ap (λ (z : Task Logged). z.body.makers) f ∙ e
+  family_fresh V (suc d) t e c (inl f) = subst IsLogged (sym f) e
   family_fresh V (suc d) t e c (inr i) =
       each_fresh V d (family_fresh V d) (history (rules strict) V t).children (history_noted V t e).children c i
 
@@ -235,7 +240,7 @@ each_whole strict V (t ∷ ts) f p (inr i) = each_whole strict V ts (λ x k. f x
 
 -- the line of a task that is at this stage, if it has one
 abbrev line_at : Point Logged → PointStage → Option TraceLine
-line_at p z = option_map (line_with p.body) (option_map
+line_at p z = option_map (line_in p) (option_map
     (λ e. record { line = record { name = p.name; prints = p.prints; ending = e; owes = p.owed }; holds = p.holds })
     (ending_of z))
 

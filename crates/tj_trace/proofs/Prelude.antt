@@ -32,6 +32,6 @@ pub use Rattle.tj_syntax.specs.Trees.{Statement}
 pub use Rattle.tj_syntax.specs.Within.{within}
 pub use Rattle.tj_trace.specs.Logs.{Logged, logged, logged_asks, logged_awaits, logged_left, logged_places}
 pub use Rattle.tj_trace.specs.Logs.{logged_program, logged_then, made_by, maker_here}
-pub use Rattle.tj_trace.specs.Traces.{AreTraced, line_of, line_with, names_of}
+pub use Rattle.tj_trace.specs.Traces.{AreTraced, line_in, line_of, line_with, names_of}
 pub use Rattle.tj_trace.specs.declared.line.Maker.{Maker}
 pub use Rattle.tj_trace.specs.declared.line.TraceLine.{TraceLine}

@@ -1,2 +1,3 @@
--- Proofs that the kit wants in specs. No public clause speaks of them.
+-- Proofs that the kit wants in specs, and what a function inside the crate speaks of. No public clause speaks of them.
 pub mod LogLaws
+pub mod LineParts

@@ -8,3 +8,4 @@ pub mod RightLines
 pub mod SpotLaws
 pub mod MadeAt
 pub mod OneOwners
+pub mod HandLaws

@@ -1,6 +1,7 @@
 //! Laws of traces. They speak of the definitions alone.
 ghost use Rattle.std.specs.Prelude.{Bool};
 ghost use Rattle.tj_eval.specs.Stands.{PlacedState};
+ghost use Rattle.tj_trace.specs.HandLaws.{HandsAreWhole};
 ghost use Rattle.tj_trace.specs.MadeAt.{LinesAreOfStands};
 ghost use Rattle.tj_trace.specs.NoteLaws.{NotesAreWhole};
 ghost use Rattle.tj_trace.specs.OneOwners.{OwnersAreOne};
@@ -54,12 +55,14 @@ pub fn spots_are_there()
     ensures { SpotsAreThere }
 {}
 
-/// A line tells where its task's history stands in the end, and where it stood as it made each
-/// thing.
+/// A line tells where its task's history stands in the end, where it stood as it made each thing
+/// and set each promise, and what its variables held.
 pub fn lines_are_of_stands()
     // Law: a line tells where the history of the body that knows where it stands has come to in the
-    // end, and, for each step of this history that made a thing, the sort of the thing and where
-    // the body stood after the step.
+    // end; for each step of this history that made a thing, the sort of the thing and where the
+    // body stood after the step; for each step that set a promise, the promise and where the body
+    // stood; what the body's variables held at first; and, if the history ended in a failure by
+    // `arith` or `kind`, what they held then.
     ensures { (strict : Bool) (root : PlacedState) → LinesAreOfStands strict root }
 {}
 
@@ -74,4 +77,11 @@ pub fn lines_have_places()
 pub fn owners_are_one()
     // Law: two lines of a trace that tell of an owner of one cell are one line.
     ensures { (strict : Bool) (root : PlacedState) → OwnersAreOne strict root }
+{}
+
+/// A task handed on what its line tells, and to the tasks that it tells.
+pub fn hands_are_whole()
+    // Law: what a line tells as handed on, and to which of the things that its task made, is each
+    // promise that each child of the task's history was handed, in the order of the forks.
+    ensures { (strict : Bool) (root : PlacedState) → HandsAreWhole strict root }
 {}

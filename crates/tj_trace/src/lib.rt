@@ -6,8 +6,11 @@ pub mod laws;
 mod line;
 mod logged;
 mod lookup;
+mod parts;
 mod traced;
 
-pub use line::{Maker, MakerList, TraceLine, TraceLines};
+pub use line::{
+    HandList, HandNote, Maker, MakerList, SetList, SetNote, TraceLine, TraceLines, ValueList,
+};
 pub use lookup::{ask_spot, line_of, maker_of, owner_of, spot};
 pub use traced::trace;

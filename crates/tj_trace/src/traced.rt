@@ -12,6 +12,7 @@ ghost use Rattle.tj_trace.specs.Traces.{AreTraced, line_with, names_of};
 
 use crate::line::{TraceLine, TraceLines};
 use crate::logged::LoggedBody;
+use crate::parts::parts_of;
 use std::alloc::Global;
 use tj_base::{Items, Oom, name_cmp};
 use tj_body::Body;
@@ -35,10 +36,12 @@ pub fn trace(
         e ≡ PlanFault.Full → rounds.IsFull (logged_program strict root.now) cells) }
     // The lines are those of the meaning: one for each task, in name order, with what its outcome
     // tells of it, the promises that it holds where it waits, the declaration that it runs, the
-    // statement at which it waits, failed or ended, and the statement that made each of its things.
+    // statement at which it waits, failed or ended, the statement that made each of its things,
+    // what it set and handed on, its arguments, and, if it failed by `arith` or `kind`, what its
+    // variables held.
     ensures traced { IfOk result (AreTraced (logged_program strict root.now) cells) }
 {
-    let noting = LoggedBody::of(alloc, root.twin(alloc)?);
+    let noting = LoggedBody::of(alloc, root.twin(alloc)?)?;
     let tasks = bodies(alloc, &noting, cells, strict)?;
     let lines = lines_of(alloc, tasks)?;
     Ok(Items::of(in_name_order(lines)?))
@@ -47,26 +50,31 @@ pub fn trace(
 /// The lines of the tasks.
 fn lines_of(alloc: Global, tasks: Vec<StoppedBody<LoggedBody>>) -> Result<Vec<TraceLine>, Oom>
     ensures { IfOk result (λ lines. lines.items
-        ≡ map (λ task. line_with task.body task.told) tasks.entry.items) }
+        ≡ map line_with tasks.entry.items) }
 {
     let mut lines = Vec::new(alloc);
     for task in tasks {
-        lines.push(line_of(task))?;
+        lines.push(line_of(alloc, task)?)?;
     }
     Ok(lines)
 }
 
 /// The line of a task.
-fn line_of(task: StoppedBody<LoggedBody>) -> TraceLine
-    ensures { result ≡ line_with task.entry.body task.entry.told }
+fn line_of(alloc: Global, task: StoppedBody<LoggedBody>) -> Result<TraceLine, Oom>
+    ensures { IfOk result (λ line. line ≡ line_with task.entry) }
 {
-    TraceLine {
+    let parts = parts_of(alloc, &task)?;
+    Ok(TraceLine {
         line: task.told.line,
         holds: task.told.holds,
         decl: task.body.placed.decl(),
         at: task.body.placed.at(),
         makers: Items::of(task.body.makers),
-    }
+        sets: parts.sets,
+        hands: parts.hands,
+        began: parts.began,
+        held: parts.held,
+    })
 }
 
 /// The lines in name order.

@@ -10,7 +10,7 @@ use Rattle.tj_why.specs.WhyLine.{AllMayStand, IsCommand, Item, MayStand, alone, 
 use Rattle.tj_why.specs.WhyLine.{with_items}
 use Rattle.tj_why.specs.declared.line.Said.{Said}
 use Rattle.tj_why.specs.declared.line.WhyCommand.{WhyCommand}
-use Rattle.tj_why.specs.declared.line_word.Flag.TheVariants.{Strict, All, Dot}
+use Rattle.tj_why.specs.declared.line_word.Flag.TheVariants.{Strict, Short, All, Dot, Json}
 use Rattle.tj_why.specs.declared.line_word.OptionName.TheVariants.{Cells, Steps}
 
 -- the numbers that were said are within their limits
@@ -22,8 +22,10 @@ within_with : (said : Said) (item : Item) → MayStand item said → AreWithin s
 within_with said (numbered Cells digits) may are = record { cells = may.2; steps = are.steps }
 within_with said (numbered Steps digits) may are = record { cells = are.cells; steps = may.2 }
 within_with said (alone Strict) may are = record { cells = are.cells; steps = are.steps }
+within_with said (alone Short) may are = record { cells = are.cells; steps = are.steps }
 within_with said (alone All) may are = record { cells = are.cells; steps = are.steps }
 within_with said (alone Dot) may are = record { cells = are.cells; steps = are.steps }
+within_with said (alone Json) may are = record { cells = are.cells; steps = are.steps }
 
 within_items : (said : Said) (items : List Item) → AllMayStand items said → AreWithin said
     → AreWithin (with_items items said)

@@ -30,7 +30,7 @@ use Rattle.tj_trace.specs.Inner.LogLaws.{are_seen}
 use Rattle.tj_trace.specs.Logs.{Logged, erased, logged_program}
 use Rattle.tj_trace.specs.Lookups.{kept_by, kept_with}
 use Rattle.tj_trace.specs.TraceLaws.{script_program}
-use Rattle.tj_trace.specs.Traces.{AreTraced, line_with}
+use Rattle.tj_trace.specs.Traces.{AreTraced, line_in}
 use Rattle.tj_trace.specs.Traces as traces
 use Rattle.tj_trace.specs.declared.line.TraceLine.{TraceLine}
 use Rattle.tj_trace.proofs.OwnersOne.{owners_are_one}
@@ -153,10 +153,10 @@ module _ (strict : Bool) (root : PlacedState) (N : ℕ) (lines : List TraceLine)
   line_for s i =
       let p = told_of (meaning (logged_program strict root) N) ss told_logged s i in
       let j = in_unpermuted (meaning (logged_program strict root) N) traced.histories traced.same_histories p.0 p.1 in
-      let is : traces.line_of p.0 ≡ Some (line_with p.0.body s) = ap (option_map (line_with p.0.body)) p.2 in
+      let is : traces.line_of p.0 ≡ Some (line_in p.0 s) = ap (option_map (line_in p.0)) p.2 in
       let k = subst (IsIn (traces.line_of p.0)) traced.are_told (to_map traces.line_of p.0 traced.histories j) in
       let l = in_map (λ (z : TraceLine). Some z) (traces.line_of p.0) traced.told k in
-      let same : l.0 ≡ line_with p.0.body s = some_is l.0 (line_with p.0.body s) (sym l.2 ∙ is) in (
+      let same : l.0 ≡ line_in p.0 s = some_is l.0 (line_in p.0 s) (sym l.2 ∙ is) in (
         l.0,
         in_unpermuted traced.told lines traced.same_lines l.0 l.1,
         ap (λ (z : TraceLine). z.line) same,

@@ -37,7 +37,7 @@ use Rattle.tj_mean.specs.declared.outcome.Ending.{Ending}
 use Rattle.tj_mean.specs.declared.outcome.Ending.TheVariants as ending
 use Rattle.tj_mean.specs.declared.outcome.Link.{Link}
 use Rattle.tj_trace.specs.Logs.{Logged, logged_left, logged_program}
-use Rattle.tj_trace.specs.Traces.{AreTraced, line_with}
+use Rattle.tj_trace.specs.Traces.{AreTraced, line_in}
 use Rattle.tj_trace.specs.Traces as traces
 use Rattle.tj_trace.specs.declared.line.TraceLine.{TraceLine}
 use Rattle.tj_why.proofs.ToldParts.{debts_by, debts_told}
@@ -120,7 +120,7 @@ module _ (strict : Bool) (root : PlacedState) (N : ℕ) (lines : List TraceLine)
 
   of_point : (p : Point Logged) → owes_if (traces.line_of p) ≤ times q p.owed
   of_point p = by (ending_of p.stage) where
-    by : (e : Option Ending) → owes_if (option_map (line_with p.body) (option_map (λ e. record {
+    by : (e : Option Ending) → owes_if (option_map (line_in p) (option_map (λ e. record {
       line = record { name = p.name; prints = p.prints; ending = e; owes = p.owed };
       holds = p.holds;
     }) e)) ≤ times q p.owed

@@ -24,3 +24,4 @@ pub mod ToldFindings
 pub mod NamedCells
 pub mod CellsTold
 pub mod TasksTold
+pub mod Setters

@@ -20,6 +20,8 @@ use Rattle.tj_mean.specs.declared.outcome.Outcome.{Outcome}
 use Rattle.tj_syntax.specs.Faults.{IsScript, kinds_of}
 use Rattle.tj_syntax.specs.PlacesOf.{PlacesOfTask}
 use Rattle.tj_syntax.specs.Trees.{Task}
+use Rattle.tj_syntax.specs.declared.script_text.NoScript.{NoScript}
+use Rattle.tj_syntax.specs.declared.script_text.NoScript.TheVariants as no_script
 use Rattle.tj_trace.specs.Logs.{logged_program}
 use Rattle.tj_trace.specs.TraceLaws.{script_program}
 use Rattle.tj_trace.specs.Traces.{AreTraced}
@@ -28,12 +30,12 @@ use Rattle.tj_command.proofs.MainDeclaration.{one_main}
 use Rattle.tj_trace.proofs.OneTrace.{one_trace}
 use Rattle.tj_trace.proofs.Seen.{is_of_outcome}
 use Rattle.tj_why.proofs.Readings.{one_command}
-use Rattle.tj_why.specs.Carets.{fault_text}
-use Rattle.tj_why.specs.WhyOutput.{ArePlaces, IsCommandOutput, IsOutput, IsToldFault, IsToldRun, IsToldScript, ended}
-use Rattle.tj_why.specs.WhyOutput.{needs_more, of_command, tells_lines, usage, was_fine}
+use Rattle.tj_why.specs.WhyOutput.{ArePlaces, AreTokensOf, IsCommandOutput, IsOutput, IsToldFault, IsToldRun}
+use Rattle.tj_why.specs.WhyOutput.{IsToldScript, ended, needs_more, of_command, scene_of, tells_lines, usage, was_fine}
 use Rattle.tj_why.specs.Findings.{findings_of}
 use Rattle.tj_why.specs.Scenes.{Told}
-use Rattle.tj_why.specs.Tellings.{why_text}
+use Rattle.tj_why.specs.JsonTexts.{fine_json, finding_json, told_json}
+use Rattle.tj_why.specs.Tellings.{fault_told, fine_told, why_text}
 use Rattle.tj_why.specs.WhyTexts.{fine_text, finding_text, told_text}
 use Rattle.tj_why.specs.declared.telling.Telling.{Telling}
 use Rattle.tj_why.specs.declared.telling.Telling.TheVariants as telling
@@ -66,30 +68,34 @@ pub not_marked : (kind : Telling) (marked : Bool) → tells_lines kind marked �
 not_marked telling.Wrong marked h = h
 not_marked telling.All marked h = h
 not_marked telling.Dot marked h = absurd (cc)
+not_marked telling.Json marked h = h
 
 -- what isn't told by lines isn't marked, and is told to be fine by lines too
-plain_text : (script : List Task) (places : List PlacesOfTask) (lines : List TraceLine) (o : Outcome)
-    (telling : Telling) → tells_lines telling (is_marked o) ≡ false → map (λ (l : TraceLine). l.line) lines ≡ o.lines
-    → (is_marked o ≡ false) × (why_text script places lines o telling ≡ fine_text (length o.lines))
-plain_text script places lines o kind plain same = by kind plain where
+plain_text : (s : Told) (lines : List TraceLine) (o : Outcome) (telling : Telling)
+    → tells_lines telling (is_marked o) ≡ false → map (λ (l : TraceLine). l.line) lines ≡ o.lines
+    → (is_marked o ≡ false) × (why_text s lines o telling ≡ fine_told telling (length o.lines))
+plain_text s lines o kind plain same = by kind plain where
   long : length lines ≡ length o.lines
   long = sym (length-map lines (λ (l : TraceLine). l.line)) ∙ ap length same
-
-  s : Told
-  s = record { script = script; places = places }
 
   words : (all : Bool) → is_marked o ≡ false → told_text s lines o all ≡ fine_text (length o.lines)
   words all fine =
       ap (λ b. cond b (flat_map (finding_text s all) (findings_of lines o.cycles)) (fine_text (length lines))) fine
       ∙ ap fine_text long
 
+  objects : is_marked o ≡ false → told_json s lines o ≡ fine_json (length o.lines)
+  objects fine =
+      ap (λ b. cond b (flat_map (finding_json s) (findings_of lines o.cycles)) (fine_json (length lines))) fine
+      ∙ ap fine_json long
+
   by : (kind : Telling) → tells_lines kind (is_marked o) ≡ false
-      → (is_marked o ≡ false) × (why_text script places lines o kind ≡ fine_text (length o.lines))
+      → (is_marked o ≡ false) × (why_text s lines o kind ≡ fine_told kind (length o.lines))
   by telling.Wrong h = (h, words false h)
   by telling.All h = (h, words true h)
   by telling.Dot h = absurd (cc)
+  by telling.Json h = (h, objects h)
 
-module _ (command : WhyCommand) (script : List Task) (tokens : List Token) (root : PlacedState) where
+module _ (command : WhyCommand) (input : List ℕ) (script : List Task) (tokens : List Token) (root : PlacedState) where
   abbrev cells : ℕ
   cells = command.limits.cells
 
@@ -105,25 +111,25 @@ module _ (command : WhyCommand) (script : List Task) (tokens : List Token) (root
       → IsOutcome (meaning (script_program strict root) cells) o
       → IsOutcome (meaning (script_program strict root) cells) p → AreTraced (logged_program strict root) cells lines
       → tells_lines command.telling (is_marked p) ≡ false
-      → Same (status_of (is_marked o)) Clean (why_text script places lines o command.telling)
-      (fine_text (length p.lines))
+      → Same (status_of (is_marked o)) Clean (why_text (scene_of command input script places) lines o command.telling)
+      (fine_told command.telling (length p.lines))
   mixed o p lines places h i traced plain =
       let same = one_of o p h i in
-      let told = plain_text script places lines p command.telling plain
+      let told = plain_text (scene_of command input script places) lines p command.telling plain
       (is_of_outcome strict root cells lines p traced i) in (
         ap (λ (x : Outcome). status_of (is_marked x)) same ∙ ap status_of told.0,
-        ap (λ x. why_text script places lines x command.telling) same ∙ told.1,
+        ap (λ x. why_text (scene_of command input script places) lines x command.telling) same ∙ told.1,
       )
 
   -- a run is told in one way
   one_run : IsScript (kinds_of tokens) script → (a b : Status) (s t : List ℕ)
-      → IsToldRun command script tokens root a s → IsToldRun command script tokens root b t → Same a b s t
+      → IsToldRun command input script tokens root a s → IsToldRun command input script tokens root b t → Same a b s t
   one_run is a b s t (needs_more m) (needs_more n) = (refl, refl)
   one_run is a b s t (needs_more m) (was_fine o fits h plain) = absurd (fits m)
   one_run is a b s t (needs_more m) (ended o ls ps fits h k l) = absurd (fits m)
   one_run is a b s t (was_fine o fits h plain) (needs_more m) = absurd (fits m)
   one_run is a b s t (was_fine o fits h plain) (was_fine p also i flat) =
-      (refl, ap (λ (x : Outcome). fine_text (length x.lines)) (one_of o p h i))
+      (refl, ap (λ (x : Outcome). fine_told command.telling (length x.lines)) (one_of o p h i))
   one_run is a b s t (was_fine o fits h plain) (ended p ms qs also i j m) =
       let back = mixed p o ms qs i h j plain in (sym back.0, sym back.1)
   one_run is a b s t (ended o ls ps fits h k l) (needs_more m) = absurd (fits m)
@@ -133,9 +139,9 @@ module _ (command : WhyCommand) (script : List Task) (tokens : List Token) (root
       let lines : ls ≡ ms = one_trace (logged_program strict root) cells ls ms k j in
       let places : ps ≡ qs = one_places tokens script is ps qs l m in (
         ap (λ (x : Outcome). status_of (is_marked x)) outcome,
-        ap (λ x. why_text script x ls o command.telling) places
-            ∙ ap (λ x. why_text script qs x o command.telling) lines
-            ∙ ap (λ x. why_text script qs ms x command.telling) outcome,
+        ap (λ x. why_text (scene_of command input script x) ls o command.telling) places
+            ∙ ap (λ x. why_text (scene_of command input script qs) x o command.telling) lines
+            ∙ ap (λ x. why_text (scene_of command input script qs) ms x command.telling) outcome,
       )
 
 module _ (command : WhyCommand) (input : List ℕ) (one : IsOneScript input) where
@@ -150,18 +156,29 @@ module _ (command : WhyCommand) (input : List ℕ) (one : IsOneScript input) whe
       subst (λ z. IsPlacedMain z command.limits.steps k.root) script k.main in
       let root : k.root ≡ h.root = one_root (kinds_of h.is.tokens) h.script command.limits.steps h.is.is_script h.root
       k.root h.main main in
-      let told : IsToldRun command h.script h.is.tokens h.root b t =
-      subst (λ z. IsToldRun command h.script h.is.tokens z b t) root
-      (subst (λ z. IsToldRun command h.script z k.root b t) tokens
-      (subst (λ z. IsToldRun command z k.is.tokens k.root b t) script k.told)) in
-      one_run command h.script h.is.tokens h.root h.is.is_script a b s t h.told told
+      let told : IsToldRun command input h.script h.is.tokens h.root b t =
+      subst (λ z. IsToldRun command input h.script h.is.tokens z b t) root
+      (subst (λ z. IsToldRun command input h.script z k.root b t) tokens
+      (subst (λ z. IsToldRun command input z k.is.tokens k.root b t) script k.told)) in
+      one_run command input h.script h.is.tokens h.root h.is.is_script a b s t h.told told
+
+  -- a text with this fault has one list of such tokens
+  one_list : (fault : NoScript) (a b : List Token) → AreTokensOf input fault a → AreTokensOf input fault b → a ≡ b
+  one_list (no_script.Long at) a b h k = h ∙ sym k
+  one_list (no_script.Tokens fault) a b h k = h ∙ sym k
+  one_list (no_script.Grammar fault) a b h k = one.tokens a b h k
 
   -- a fault is told in one way
-  one_fault_told : (a b : Status) (s t : List ℕ) → IsToldFault input a s → IsToldFault input b t → Same a b s t
-  one_fault_told a b s t h k = (
-    h.is_script ∙ sym k.is_script,
-    h.told ∙ ap (fault_text (take most_bytes input)) (one.fault h.fault k.fault h.first k.first) ∙ sym k.told,
-  )
+  one_fault_told : (a b : Status) (s t : List ℕ) → IsToldFault command.telling input a s
+      → IsToldFault command.telling input b t → Same a b s t
+  one_fault_told a b s t h k =
+      let same : h.fault ≡ k.fault = one.fault h.fault k.fault h.first k.first in
+      let has : AreTokensOf input k.fault h.tokens = subst (λ f. AreTokensOf input f h.tokens) same h.has_tokens in
+      let tokens : h.tokens ≡ k.tokens = one_list k.fault h.tokens k.tokens has k.has_tokens in (
+        h.is_script ∙ sym k.is_script,
+        h.told ∙ ap (fault_told command.telling (take most_bytes input) h.tokens) same
+            ∙ ap (λ z. fault_told command.telling (take most_bytes input) z k.fault) tokens ∙ sym k.told,
+      )
 
   -- so is an input
   one_of_command : (a b : Status) (s t : List ℕ) → IsCommandOutput command input a s → IsCommandOutput command input b t

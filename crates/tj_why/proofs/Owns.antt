@@ -14,18 +14,18 @@ own-status_of : (marked : Bool) → IsOwn (status_of marked)
 own-status_of true = tt
 own-status_of false = tt
 
-own-run : (command : WhyCommand) (script : List Task) (tokens : List Token) (root : PlacedState) (status : Status)
-    (text : List ℕ) → IsToldRun command script tokens root status text → IsOwn status
-own-run command script tokens root _ _ (needs_more more) = tt
-own-run command script tokens root _ _ (was_fine outcome fits is plain) = tt
-own-run command script tokens root _ _ (ended outcome lines places fits is traced placed) = own-status_of _
+own-run : (command : WhyCommand) (input : List ℕ) (script : List Task) (tokens : List Token) (root : PlacedState)
+    (status : Status) (text : List ℕ) → IsToldRun command input script tokens root status text → IsOwn status
+own-run command input script tokens root _ _ (needs_more more) = tt
+own-run command input script tokens root _ _ (was_fine outcome fits is plain) = tt
+own-run command input script tokens root _ _ (ended outcome lines places fits is traced placed) = own-status_of _
 
 -- what is told of an input has one of them
 pub own : (command : WhyCommand) (input : List ℕ) (status : Status) (text : List ℕ)
     → IsCommandOutput command input status text → IsOwn status
 own command input status text (inl fault) = subst IsOwn (sym fault.is_script) tt
 own command input status text (inr told) =
-    own-run command told.script told.is.tokens told.root status text told.told
+    own-run command input told.script told.is.tokens told.root status text told.told
 
 -- what was put by another name of the text
 pub put_items : (Room : ℕ → Type 0) (status answer : Status) (text other : List ℕ) (before now : Option (List ℕ))

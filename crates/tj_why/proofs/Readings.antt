@@ -12,7 +12,7 @@ use Rattle.tj_why.specs.WhyLine.{with_flag, with_items, with_number, word_text, 
 use Rattle.tj_why.specs.declared.line.Said.{Said}
 use Rattle.tj_why.specs.declared.line.WhyCommand.{WhyCommand}
 use Rattle.tj_why.specs.declared.line_word.Flag.{Flag}
-use Rattle.tj_why.specs.declared.line_word.Flag.TheVariants.{Strict, All, Dot}
+use Rattle.tj_why.specs.declared.line_word.Flag.TheVariants.{Strict, Short, All, Dot, Json}
 use Rattle.tj_why.specs.declared.line_word.LineWord.{LineWord}
 use Rattle.tj_why.specs.declared.line_word.LineWord.TheVariants.{Numbered, Alone}
 use Rattle.tj_why.specs.declared.line_word.OptionName.{OptionName}
@@ -20,18 +20,21 @@ use Rattle.tj_why.specs.declared.line_word.OptionName.TheVariants.{Cells, Steps}
 
 -- ---- the options by their words
 
--- the option of a word, which is `--dot` where it is none of the others
+-- the option of a word, which is `--json` where it is none of the others
 abbrev option_at : List ℕ → LineWord
 option_at w = cond (bytes_eq w (codes "--cells")) (Numbered Cells)
     (cond (bytes_eq w (codes "--steps")) (Numbered Steps)
-    (cond (bytes_eq w (codes "--strict")) (Alone Strict) (cond (bytes_eq w (codes "--all")) (Alone All) (Alone Dot))))
+    (cond (bytes_eq w (codes "--strict")) (Alone Strict) (cond (bytes_eq w (codes "--short")) (Alone Short)
+    (cond (bytes_eq w (codes "--all")) (Alone All) (cond (bytes_eq w (codes "--dot")) (Alone Dot) (Alone Json))))))
 
 at_text : (w : LineWord) → option_at (word_text w) ≡ w
 at_text (Numbered Cells) = refl
 at_text (Numbered Steps) = refl
 at_text (Alone Strict) = refl
+at_text (Alone Short) = refl
 at_text (Alone All) = refl
 at_text (Alone Dot) = refl
+at_text (Alone Json) = refl
 
 -- no two options have one word
 pub one_option : (v w : LineWord) → word_text v ≡ word_text w → v ≡ w

@@ -58,11 +58,11 @@ use Rattle.tj_why.proofs.ToldOnce.{tells_each_once}
 use Rattle.tj_why.specs.Explanations.{OwedIt, StoppedSo, WaitsLeadToToldCycles}
 use Rattle.tj_why.specs.Findings.{findings_of, maker_named, told_task}
 use Rattle.tj_why.specs.Scenes.{Told}
-use Rattle.tj_why.specs.Tellings.{told_as}
-use Rattle.tj_why.specs.ToldFindings.{Explains, InWords, IsExplained, TextsTellFindings, findings_text, own_places}
-use Rattle.tj_why.specs.WhyOutput.{IsCommandOutput, IsToldRun, ended, needs_more, of_command}
+use Rattle.tj_why.specs.Tellings.{fine_told, why_text}
+use Rattle.tj_why.specs.ToldFindings.{Explains, IsExplained, TellsFindings, TextsTellFindings, finding_told}
+use Rattle.tj_why.specs.ToldFindings.{findings_told, own_places}
+use Rattle.tj_why.specs.WhyOutput.{IsCommandOutput, IsToldRun, ended, needs_more, of_command, scene_of}
 use Rattle.tj_why.specs.WhyOutput.{usage, was_fine}
-use Rattle.tj_why.specs.WhyTexts.{fine_text, finding_text, told_text}
 use Rattle.tj_why.specs.declared.finding.Finding.{Finding}
 use Rattle.tj_why.specs.declared.finding.Finding.TheVariants as finding
 use Rattle.tj_why.specs.declared.finding.ToldTask.{ToldTask}
@@ -110,13 +110,22 @@ no_echo lines cycles t c m (a_failure l j d s none e) q is =
 no_echo lines cycles t c m (a_debt l j p k e) q is = absurd (cc)
 no_echo lines cycles t c m (an_echo l j p s e) q is = absurd (cc)
 
--- findings in words
-in_words : (s : Told) (all : Bool) (fs : List Finding) (n : ℕ) (marked : Bool) → (fs ≡ []) ↔ (marked ≡ false)
-    → cond marked (flat_map (finding_text s all) fs) (fine_text n) ≡ findings_text s all n fs
-in_words s all [] n true is = absurd (let z : true ≡ false = is.0 refl in cc)
-in_words s all [] n false is = refl
-in_words s all (f ∷ fs) n true is = refl
-in_words s all (f ∷ fs) n false is = absurd (let z : f ∷ fs ≡ [] = is.1 refl in cc)
+-- findings as they are told
+all_told : (s : Told) (kind : Telling) (fs : List Finding) (n : ℕ) (marked : Bool) → (fs ≡ []) ↔ (marked ≡ false)
+    → cond marked (flat_map (finding_told s kind) fs) (fine_told kind n) ≡ findings_told s kind n fs
+all_told s kind [] n true is = absurd (let z : true ≡ false = is.0 refl in cc)
+all_told s kind [] n false is = refl
+all_told s kind (f ∷ fs) n true is = refl
+all_told s kind (f ∷ fs) n false is = absurd (let z : f ∷ fs ≡ [] = is.1 refl in cc)
+
+-- what lines tell is told of findings
+as_told : (s : Told) (kind : Telling) (lines : List TraceLine) (o : Outcome) → TellsFindings kind
+    → why_text s lines o kind
+    ≡ cond (is_marked o) (flat_map (finding_told s kind) (findings_of lines o.cycles)) (fine_told kind (length lines))
+as_told s telling.Wrong lines o is = refl
+as_told s telling.All lines o is = refl
+as_told s telling.Dot lines o is = absurd is
+as_told s telling.Json lines o is = refl
 
 -- what is told of a history that has ended so
 abbrev told_so : {B : Type 0} → Point B → Ending → Stopped
@@ -204,25 +213,18 @@ module _ (leads : (strict : Bool) (root : PlacedState) → WaitsLeadToToldCycles
             traced out;
       }
 
-  module _ (command : WhyCommand) (limits : AreLimits command.limits) (all : Bool)
-      (words : InWords command.telling all) (input : List ℕ) where
+  module _ (command : WhyCommand) (limits : AreLimits command.limits) (tells : TellsFindings command.telling)
+      (input : List ℕ) where
     abbrev cells : ℕ
     cells = command.limits.cells
 
     abbrev strict : Bool
     strict = command.limits.strict
 
-    -- in words, what lines tell is told of them
-    as_told : (s : Told) (kind : Telling) (lines : List TraceLine) (o : Outcome) → InWords kind all
-        → told_as s lines o kind ≡ told_text s lines o all
-    as_told s telling.Wrong lines o is = ap (told_text s lines o) (sym is)
-    as_told s telling.All lines o is = ap (told_text s lines o) (sym is)
-    as_told s telling.Dot lines o is = absurd is
-
     of_run : (script : List Task) (is : IsScriptOf input script) (root : PlacedState)
         → IsPlacedMain script command.limits.steps root → (marked : Bool) (status : Status) (text : List ℕ)
-        → IsToldRun command script is.tokens root status text → status ≡ status_of marked
-        → IsExplained command all input marked text
+        → IsToldRun command input script is.tokens root status text → status ≡ status_of marked
+        → IsExplained command input marked text
     of_run script is root main marked _ _ (needs_more full) e = absurd (no_full marked e)
     of_run script is root main marked _ _ (was_fine o room out plain) e =
         let unmarked : marked ≡ false = same_mark marked false (sym e) in record {
@@ -239,7 +241,7 @@ module _ (leads : (strict : Bool) (root : PlacedState) → WaitsLeadToToldCycles
           told = refl;
         }
     of_run script is root main marked _ _ (ended o ls ps room out traced placed) e =
-        let s : List PlacesOfTask → Told = λ places. record { script = script; places = places } in
+        let s : List PlacesOfTask → Told = scene_of command input script in
         let here : ps ≡ own_places input script is =
         placed is.is_script.notes script is.is_script.derived is.is_script.spells in
         let mark : is_marked o ≡ marked = same_mark (is_marked o) marked e in
@@ -257,19 +259,19 @@ module _ (leads : (strict : Bool) (root : PlacedState) → WaitsLeadToToldCycles
           explain = lines_tell script is.tokens is.is_script command.limits.steps limits.few_steps root main strict
               cells limits.few_cells room ls traced o out;
           fine = ((λ z. sym mark ∙ found.0 z), (λ z. found.1 (mark ∙ z)));
-          told = as_told (s ps) command.telling ls o words
-              ∙ in_words (s ps) all (findings_of ls o.cycles) (length ls) (is_marked o) found
-              ∙ ap (λ n. findings_text (s ps) all n (findings_of ls o.cycles)) long
-              ∙ ap (λ z. findings_text (s z) all (length o.lines) (findings_of ls o.cycles)) here;
+          told = as_told (s ps) command.telling ls o tells
+              ∙ all_told (s ps) command.telling (findings_of ls o.cycles) (length ls) (is_marked o) found
+              ∙ ap (λ n. findings_told (s ps) command.telling n (findings_of ls o.cycles)) long
+              ∙ ap (λ z. findings_told (s z) command.telling (length o.lines) (findings_of ls o.cycles)) here;
         }
 
   -- the law
   pub texts_tell : TextsTellFindings
-  texts_tell words input status text (usage none) command is all in_words marked e = absurd (no_usage marked e)
-  texts_tell words input status text (of_command other are out) command is all in_words marked e =
+  texts_tell words input status text (usage none) command is tells marked e = absurd (no_usage marked e)
+  texts_tell words input status text (of_command other are out) command is tells marked e =
       by (subst (λ k. IsCommandOutput k input status text) (one_command words other command are is) out) where
-        by : IsCommandOutput command input status text → IsExplained command all input marked text
+        by : IsCommandOutput command input status text → IsExplained command input marked text
         by (inl fault) = absurd (no_script marked (sym fault.is_script ∙ e))
         by (inr told) =
-            of_run command (within_limits words command is) all in_words input told.script told.is told.root told.main
+            of_run command (within_limits words command is) tells input told.script told.is told.root told.main
             marked status text told.told e

@@ -13,6 +13,7 @@ use Rattle.tj_trace.specs.declared.line.Maker.{Maker}
 use Rattle.tj_trace.specs.declared.line.TraceLine.{TraceLine}
 use Rattle.tj_why.specs.Echoes.{origin}
 use Rattle.tj_why.specs.Searches.{line_of, maker_of, owner_of}
+use Rattle.tj_why.specs.Went.{went_at}
 use Rattle.tj_why.specs.declared.finding.Finding.{Finding}
 use Rattle.tj_why.specs.declared.finding.Finding.TheVariants as finding
 use Rattle.tj_why.specs.declared.finding.Stop.{Stop}
@@ -38,7 +39,8 @@ is_owing ended (ending.Failed c) = not ended
 is_owing ended (ending.Waits q) = not ended
 
 module _ (lines : List TraceLine) where
-  -- the task with this line: its fork, and where and how it stopped
+  -- the task with this line: its fork, where and how it stopped, its arguments, and where the promise went for which it
+  -- failed
   abbrev pub told_task : TraceLine → ToldTask
   told_task l = record {
     name = l.line.name;
@@ -46,6 +48,8 @@ module _ (lines : List TraceLine) where
     fork = maker_of lines l.line.name;
     stop = stop_of l.line.ending;
     at = l.at;
+    began = l.began;
+    went = went_at lines l l.line.ending;
   }
 
   -- the cell with this name, with the statement that made it

@@ -16,3 +16,10 @@ pub mod Origins
 pub mod ToldFindings
 pub mod CellsTold
 pub mod TasksTold
+pub mod Fronts
+pub mod Wanted
+pub mod FaultWords
+pub mod JsonTexts
+pub mod Went
+pub mod WentTexts
+pub mod Arguments

@@ -1,5 +1,5 @@
 -- What a text of a run looks things up in, and how it names a task, a promise and a position.
-use Rattle.std.specs.Prelude.{ℕ, List, [], ◌++◌, codes, decimal, slice_get, Option, Some, None}
+use Rattle.std.specs.Prelude.{ℕ, Bool, List, [], ◌++◌, codes, decimal, slice_get, Option, Some, None}
 use Rattle.std.specs.Option.{option_or}
 use Rattle.tj_base.specs.Texts.{name_text}
 use Rattle.tj_lex.specs.declared.place.Place.{Place}
@@ -9,17 +9,25 @@ use Rattle.tj_syntax.specs.Trees.{Task}
 use Rattle.tj_syntax.specs.View as trees
 use Rattle.tj_trace.specs.Lookups.{ask_spot_of, spot_of}
 use Rattle.tj_trace.specs.declared.line.Maker.{Maker}
+use Rattle.tj_why.specs.Arguments.{arguments_text}
 use Rattle.tj_why.specs.declared.finding.ToldTask.{ToldTask}
 use Rattle.tj_why.specs.declared.scene.Scene.{Scene}
 
--- a script, and where its parts stand
+-- a script, where its parts stand, and its text; and whether no lines of this are told
 pub record Told : Type 0 where
   pub script : List Task
   pub places : List PlacesOfTask
+  pub text : List ℕ
+  pub short : Bool
 
 -- the same of what the code holds
 abbrev pub view : Scene → Told
-view s = record { script = trees.script s.script.now; places = places.view s.places.now }
+view s = record {
+  script = trees.script s.script.now;
+  places = places.view s.places.now;
+  text = s.text.now;
+  short = s.short;
+}
 
 -- a position
 abbrev pub place_text : Place → List ℕ
@@ -49,10 +57,10 @@ abbrev pub forked_text : Told → Option Maker → List ℕ
 forked_text s None = []
 forked_text s (Some m) = codes ", forked at " ++ spot_text s m.decl m.at
 
--- a task with its declaration and the fork that made it
+-- a task with its declaration, its arguments and the fork that made it
 abbrev pub label : Told → ToldTask → List ℕ
-label s t =
-    name_text t.name ++ codes " (task " ++ name_of (slice_get s.script t.decl) ++ forked_text s t.fork ++ codes ")"
+label s t = name_text t.name ++ codes " (task " ++ name_of (slice_get s.script t.decl)
+    ++ arguments_text (slice_get s.script t.decl) t.began ++ forked_text s t.fork ++ codes ")"
 
 -- where a task stopped
 abbrev pub stop_text : Told → ToldTask → List ℕ

@@ -28,8 +28,10 @@ use Rattle.tj_why.specs.Positions.{IsToldRight, tasks_in}
 use Rattle.tj_why.specs.Scenes.{Told}
 use Rattle.tj_why.specs.TasksTold.{IsOfHistory}
 use Rattle.tj_why.specs.WhyLine.{IsCommand}
-use Rattle.tj_why.specs.WhyOutput.{IsOutput}
-use Rattle.tj_why.specs.WhyTexts.{fine_text, finding_text}
+use Rattle.tj_why.specs.WhyOutput.{IsOutput, scene_of}
+use Rattle.tj_why.specs.JsonTexts.{finding_json}
+use Rattle.tj_why.specs.Tellings.{fine_told}
+use Rattle.tj_why.specs.WhyTexts.{finding_text}
 use Rattle.tj_why.specs.declared.finding.Finding.{Finding}
 use Rattle.tj_why.specs.declared.finding.Finding.TheVariants as finding
 use Rattle.tj_why.specs.declared.finding.ToldCell.{ToldCell}
@@ -65,24 +67,31 @@ pub record Explains (script : List Task) (places : List PlacesOfTask) (strict : 
   pub cells : (q : ToldCell) → IsIn q (flat_map cells_in fs)
       → IsCellToldRight script places (placed_program strict root) N q
 
--- what is told of findings: each of them, or where there are none that nothing went wrong with so many tasks
-abbrev pub findings_text : Told → Bool → ℕ → List Finding → List ℕ
-findings_text s all n [] = fine_text n
-findings_text s all n (f ∷ fs) = flat_map (finding_text s all) (f ∷ fs)
+-- what is told of a finding: in words, with each member of a cycle or without, or as an object; a graph tells none
+abbrev pub finding_told : Told → Telling → Finding → List ℕ
+finding_told s telling.Wrong = finding_text s false
+finding_told s telling.All = finding_text s true
+finding_told s telling.Dot = λ f. []
+finding_told s telling.Json = finding_json s
 
--- it is told in words, with each member of a cycle or without
-abbrev pub InWords : Telling → Bool → Type 0
-InWords telling.Wrong all = all ≡ false
-InWords telling.All all = all ≡ true
-InWords telling.Dot all = ⊥
+-- what is told of findings: each of them, or where there are none that nothing went wrong with so many tasks
+abbrev pub findings_told : Told → Telling → ℕ → List Finding → List ℕ
+findings_told s kind n [] = fine_told kind n
+findings_told s kind n (f ∷ fs) = flat_map (finding_told s kind) (f ∷ fs)
+
+-- findings are told: it is no graph
+abbrev pub TellsFindings : Telling → Type 0
+TellsFindings telling.Wrong = Unit {0}
+TellsFindings telling.All = Unit {0}
+TellsFindings telling.Dot = ⊥
+TellsFindings telling.Json = Unit {0}
 
 -- where the parts of the script stand in the input
 abbrev pub own_places : (input : List ℕ) (script : List Task) → IsScriptOf input script → List PlacesOfTask
 own_places input script is = places_of is.tokens (in_tasks is.is_script.derived 0)
 
--- what is told in words of the run of an input that is a script
-pub record IsExplained (command : WhyCommand) (all : Bool) (input : List ℕ) (marked : Bool) (text : List ℕ) :
-    Type 0 where
+-- what is told of the run of an input that is a script
+pub record IsExplained (command : WhyCommand) (input : List ℕ) (marked : Bool) (text : List ℕ) : Type 0 where
   pub script : List Task
   pub is : IsScriptOf input script
   pub root : PlacedState
@@ -92,12 +101,12 @@ pub record IsExplained (command : WhyCommand) (all : Bool) (input : List ℕ) (m
   pub findings : List Finding
   pub explain : Explains script (own_places input script is) command.limits.strict root command.limits.cells findings
   pub fine : (findings ≡ []) ↔ (marked ≡ false)
-  pub told : text ≡ findings_text (record { script = script; places = own_places input script is }) all
+  pub told : text ≡ findings_told (scene_of command input script (own_places input script is)) command.telling
       (length outcome.lines) findings
 
--- each output in words whose status is that of an outcome is told so
+-- each output in words or objects whose status is that of an outcome is told so
 abbrev pub TextsTellFindings : Type 0
 TextsTellFindings = (words : List (String Global)) (input : List ℕ) (status : Status) (text : List ℕ)
     → IsOutput words input status text → (command : WhyCommand) → IsCommand words command
-    → (all : Bool) → InWords command.telling all → (marked : Bool) → status ≡ status_of marked
-    → IsExplained command all input marked text
+    → TellsFindings command.telling → (marked : Bool) → status ≡ status_of marked
+    → IsExplained command input marked text

@@ -1,6 +1,6 @@
 -- The form of the command line: items in any order.
-use Rattle.std.specs.Prelude.{ℕ, ◌≡◌, true, false, List, [], ◌∷◌, Option, Some, None, String, string_bytes, codes}
-use Rattle.std.specs.Prelude.{map, unwrap_or}
+use Rattle.std.specs.Prelude.{ℕ, ◌≡◌, Bool, true, false, cond, List, [], ◌∷◌, Option, Some, None, String}
+use Rattle.std.specs.Prelude.{codes, map, string_bytes, unwrap_or}
 use Rattle.std.specs.List.{flat_map}
 use Rattle.std.specs.Str.Parse.{digits_value}
 use Rattle.std.specs.declared.alloc.Global.{Global}
@@ -10,11 +10,12 @@ use Rattle.tj_eval.specs.declared.body.TheConstants.{MAX_STEPS}
 use Rattle.tj_why.specs.declared.line.Said.{Said}
 use Rattle.tj_why.specs.declared.line.WhyCommand.{WhyCommand}
 use Rattle.tj_why.specs.declared.line_word.Flag.{Flag}
-use Rattle.tj_why.specs.declared.line_word.Flag.TheVariants.{Strict, All, Dot}
+use Rattle.tj_why.specs.declared.line_word.Flag.TheVariants.{Strict, Short, All, Dot, Json}
 use Rattle.tj_why.specs.declared.line_word.LineWord.{LineWord}
 use Rattle.tj_why.specs.declared.line_word.LineWord.TheVariants.{Numbered, Alone}
 use Rattle.tj_why.specs.declared.line_word.OptionName.{OptionName}
 use Rattle.tj_why.specs.declared.line_word.OptionName.TheVariants.{Cells, Steps}
+use Rattle.tj_why.specs.declared.telling.Telling.{Telling}
 use Rattle.tj_why.specs.declared.telling.Telling.TheVariants as telling
 
 -- the word of each option
@@ -22,8 +23,10 @@ abbrev pub word_text : LineWord → List ℕ
 word_text (Numbered Cells) = codes "--cells"
 word_text (Numbered Steps) = codes "--steps"
 word_text (Alone Strict) = codes "--strict"
+word_text (Alone Short) = codes "--short"
 word_text (Alone All) = codes "--all"
 word_text (Alone Dot) = codes "--dot"
+word_text (Alone Json) = codes "--json"
 
 -- an item: an option with the digits of its number, or one without a number
 pub data Item : Type 0 where
@@ -47,7 +50,7 @@ number_of Steps said = said.steps
 
 -- nothing was said
 abbrev pub nothing : Said
-nothing = record { cells = None; steps = None; strict = false; telling = None }
+nothing = record { cells = None; steps = None; strict = false; short = false; json = false; telling = None }
 
 -- what is said with a number besides
 abbrev pub with_number : OptionName → ℕ → Said → Said
@@ -57,19 +60,29 @@ with_number Steps n said = record said { steps = Some n }
 -- what is said with a flag besides
 abbrev pub with_flag : Flag → Said → Said
 with_flag Strict said = record said { strict = true }
+with_flag Short said = record said { short = true }
 with_flag All said = record said { telling = Some telling.All }
 with_flag Dot said = record said { telling = Some telling.Dot }
+with_flag Json said = record said { json = true }
 
 -- what is said with an item besides
 abbrev pub with_item : Item → Said → Said
 with_item (numbered name digits) said = with_number name (digits_value 10 digits) said
 with_item (alone flag) said = with_flag flag said
 
--- the flag wasn't said; of `--all` and `--dot` neither was
+-- what was said is `--dot`
+abbrev pub is_dot : Option Telling → Bool
+is_dot None = false
+is_dot (Some telling.Dot) = true
+is_dot (Some other) = false
+
+-- the flag wasn't said; `--dot` and one of `--all` and `--json` don't stand together
 abbrev pub IsNewFlag : Flag → Said → Type 0
 IsNewFlag Strict said = said.strict ≡ false
+IsNewFlag Short said = said.short ≡ false
 IsNewFlag All said = said.telling ≡ None
-IsNewFlag Dot said = said.telling ≡ None
+IsNewFlag Dot said = (said.json ≡ false) × (said.telling ≡ None)
+IsNewFlag Json said = (said.json ≡ false) × (is_dot said.telling ≡ false)
 
 -- the item may stand where this was said: a number of 1 to 10 digits is within its limits, and nothing is said twice
 abbrev pub MayStand : Item → Said → Type 0
@@ -92,6 +105,10 @@ abbrev pub default_of : OptionName → ℕ
 default_of Cells = 4096
 default_of Steps = 100000
 
+-- how what went wrong is told, where this was said
+abbrev pub chosen : Bool → Option Telling → Telling
+chosen json said = cond json telling.Json (unwrap_or said telling.Wrong)
+
 -- what is asked for where this was said
 abbrev pub asked : Said → WhyCommand
 asked said = record {
@@ -100,7 +117,8 @@ asked said = record {
     steps = unwrap_or said.steps (default_of Steps);
     strict = said.strict;
   };
-  telling = unwrap_or said.telling telling.Wrong;
+  telling = chosen said.json said.telling;
+  short = said.short;
 }
 
 -- the words are those of items, each of which may stand, and this is what they ask for

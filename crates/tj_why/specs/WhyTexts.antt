@@ -1,6 +1,6 @@
 -- What went wrong with a run, as it is told: a text for each finding.
 use Rattle.std.specs.Prelude.{ℕ, Bool, true, false, ◌||◌, ◌-◌, nat_eq, nat_le, cond, List, [], ◌++◌}
-use Rattle.std.specs.Prelude.{codes, decimal, length, take, drop, Option, Some, None}
+use Rattle.std.specs.Prelude.{codes, decimal, length, take, drop, slice_get, Option, Some, None}
 use Rattle.std.specs.List.{flat_map}
 use Rattle.tj_base.specs.ForkOrder.{Name}
 use Rattle.tj_base.specs.Texts.{name_text}
@@ -12,8 +12,9 @@ use Rattle.tj_mean.specs.declared.outcome.Outcome.{Outcome}
 use Rattle.tj_mean.specs.ReportTexts.{cause_text, line_feed}
 use Rattle.tj_trace.specs.declared.line.Maker.{Maker}
 use Rattle.tj_trace.specs.declared.line.TraceLine.{TraceLine}
+use Rattle.tj_why.specs.Carets.{caret_at}
 use Rattle.tj_why.specs.Findings.{findings_of}
-use Rattle.tj_why.specs.Scenes.{Told, spot_text, stop_text, task_at}
+use Rattle.tj_why.specs.Scenes.{Told, spot_text, stop_text, task_at, told_spot}
 use Rattle.tj_why.specs.declared.finding.Finding.{Finding}
 use Rattle.tj_why.specs.declared.finding.Finding.TheVariants as finding
 use Rattle.tj_why.specs.declared.finding.Stop.{Stop}
@@ -21,6 +22,7 @@ use Rattle.tj_why.specs.declared.finding.Stop.TheVariants as stop
 use Rattle.tj_why.specs.declared.finding.ToldCell.{ToldCell}
 use Rattle.tj_why.specs.declared.finding.ToldTask.{ToldTask}
 use Rattle.tj_why.specs.declared.finding.Wait.{Wait}
+use Rattle.tj_why.specs.WentTexts.{went_text}
 
 -- so many tasks
 abbrev pub tasks_text : ℕ → List ℕ
@@ -59,9 +61,13 @@ cell_text s q owner =
 abbrev pub wait_line : Told → Wait → List ℕ
 wait_line s w = task_at s w.task (codes " waits at ") ++ codes " for " ++ cell_text s w.cell w.owner ++ line_feed
 
--- a line for a member of a cycle
+-- the source line where a task stopped, with a caret, if such lines are told
+abbrev pub source_line : Told → ToldTask → List ℕ
+source_line s t = cond s.short [] (caret_at s.text (told_spot (slice_get s.places t.decl) t.at))
+
+-- the lines for a member of a cycle
 abbrev pub member : Told → Wait → List ℕ
-member s w = codes "  " ++ wait_line s w
+member s w = codes "  " ++ wait_line s w ++ source_line s w.task
 
 -- the most members that a cycle has which is told whole
 abbrev pub most_members : ℕ
@@ -116,9 +122,14 @@ owed_line s q t = codes "owed: " ++ promise_text s q ++ codes " was never set: "
 abbrev pub failed_text : Told → ToldTask → List ℕ
 failed_text s t = codes "failed: " ++ task_at s t (codes " at ")
 
--- a line for a failure that is no echo: its cause, and where the cell was made that the cause names
+-- where the cell was made that the cause names for which the task failed, and where it went
+abbrev pub about_text : Told → ToldTask → Option Maker → List ℕ
+about_text s t m = made_text s m ++ went_text s t.decl t.went
+
+-- the lines for a failure that is no echo: its cause, what is told of the cell that the cause names, and the source line
 abbrev pub failed_line : Told → ToldTask → Cause → Option Maker → List ℕ
-failed_line s t c m = failed_text s t ++ codes ": " ++ cause_text c ++ made_text s m ++ line_feed
+failed_line s t c m =
+    failed_text s t ++ codes ": " ++ cause_text c ++ about_text s t m ++ line_feed ++ source_line s t
 
 -- what the task did from whose end a failure came: it failed, or it ended and owed promises
 abbrev pub end_word : Stop → List ℕ

@@ -50,7 +50,7 @@ fn line_len(text: &[u8]) -> usize
 }
 
 /// The first bytes of a line, or all of them.
-fn front(line: &[u8], count: usize) -> &[u8]
+pub fn front(line: &[u8], count: usize) -> &[u8]
     ensures { result.now ≡ take count line.now }
 {
     if count <= line.len() {
@@ -61,7 +61,7 @@ fn front(line: &[u8], count: usize) -> &[u8]
 }
 
 /// The line of a text that has this number.
-fn line_at(text: &[u8], number: u32) -> &[u8]
+pub fn line_at(text: &[u8], number: u32) -> &[u8]
     ensures { result.now ≡ spec.line_at number text.now }
 {
     let rest = behind_lines(text, number.saturating_sub(1) as usize);
@@ -96,7 +96,7 @@ fn caret_text(alloc: Global, text: &[u8], at: Place) -> Result<Vec<u8>, Oom>
 }
 
 /// The same where there is a position.
-fn caret_at(alloc: Global, text: &[u8], at: Option<Place>) -> Result<Vec<u8>, Oom>
+pub fn caret_at(alloc: Global, text: &[u8], at: Option<Place>) -> Result<Vec<u8>, Oom>
     ensures { IfOk result (λ told. told.items ≡ spec.caret_at text.now at) }
 {
     match at {

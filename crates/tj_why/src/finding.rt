@@ -1,7 +1,7 @@
 //! What an explanation of a run says: a list of findings, each of them one thing that went wrong. A
 //! text shows the list, and adds nothing to it.
 use tj_base::{Cause, Items, Name};
-use tj_trace::Maker;
+use tj_trace::{Maker, ValueList};
 
 /// How a task stopped.
 #[derive(Clone, Copy)]
@@ -24,6 +24,28 @@ pub struct ToldTask {
     /// The number of the statement at which it stopped. The closing brace has the number behind the
     /// last.
     pub at: usize,
+    /// What its variables held at first: its arguments, and then a 0 for each other variable.
+    pub began: ValueList,
+    /// Where the promise went for which it failed.
+    pub went: Went,
+}
+
+/// Where a promise went that a task had no right to set or to hand on.
+#[derive(Drop)]
+pub enum Went {
+    /// The task didn't fail so.
+    Nowhere,
+    /// The task itself had set it, at this statement of its declaration.
+    SetHere(usize),
+    /// The task itself, which has this name, had handed it to its thing with this number, at this
+    /// statement of its declaration.
+    HandedHere { by: Name, thing: usize, at: usize },
+    /// The task owned it, and handed it twice by the statement at which it failed.
+    TwiceHere,
+    /// This task set it, at this statement of this declaration.
+    SetBy { task: Name, decl: usize, at: usize },
+    /// This task owned it where it stopped.
+    OwnedBy(Name),
 }
 
 /// A cell, with the statement that made it.

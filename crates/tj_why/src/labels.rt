@@ -3,6 +3,7 @@ ghost use Rattle.std.specs.Prelude.{◌≡◌, IfOk, slice_get};
 ghost use Rattle.tj_syntax.specs.View as trees;
 ghost use Rattle.tj_why.specs.Scenes as spec;
 
+use crate::arguments::arguments_text;
 use crate::finding::ToldTask;
 use crate::scene::Scene;
 use crate::texts::{joined, named};
@@ -24,7 +25,7 @@ pub fn place_text(alloc: Global, place: Place) -> Result<Vec<u8>, Oom>
 
 /// Where the statement with this number in the declaration with that one is told to stand: at its
 /// ask, if it has one.
-fn told_spot(scene: &Scene, decl: usize, at: usize) -> Option<Place>
+pub fn told_spot(scene: &Scene, decl: usize, at: usize) -> Option<Place>
     ensures { result ≡ spec.told_spot (slice_get (spec.view scene.now).places decl) at }
 {
     ask_spot(scene.places, decl, at).or(spot(scene.places, decl, at))
@@ -61,18 +62,20 @@ fn forked_text(scene: &Scene, maker: Option<Maker>) -> Result<Vec<u8>, Oom>
     joined(scene.alloc, &[b", forked at ", spot.as_slice()])
 }
 
-/// A task with its declaration and the fork that made it.
+/// A task with its declaration, its arguments and the fork that made it.
 pub fn label(scene: &Scene, task: &ToldTask) -> Result<Vec<u8>, Oom>
     ensures { IfOk result (λ text. text.items ≡ spec.label (spec.view scene.now) task.now) }
 {
     let forked = forked_text(scene, task.fork)?;
     let name = named(scene.alloc, b"", &task.name)?;
+    let arguments = arguments_text(scene, task.decl, task.began.items())?;
     joined(
         scene.alloc,
         &[
             name.as_slice(),
             b" (task ",
             name_of(scene.script, task.decl),
+            arguments.as_slice(),
             forked.as_slice(),
             b")",
         ],

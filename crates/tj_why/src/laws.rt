@@ -98,12 +98,12 @@ pub fn cells_are_told_right()
     ensures { CellsAreToldRight }
 {}
 
-/// What is told in words of a run is a list of findings, which explains the run.
+/// What is told of a run in words or objects is a list of findings, which explains the run.
 pub fn texts_tell_findings()
-    // Law: an output in words whose status is that of an outcome is of a script. It tells a list of
-    // findings, which leaves out nothing but members of a long cycle, or where the list is empty that
-    // nothing went wrong. The list is empty exactly where the status says so. What the laws above say
-    // of lists of findings holds of this list.
+    // Law: an output in words or in objects of JSON whose status is that of an outcome is of a script.
+    // It tells a list of findings, which leaves out nothing but in words members of a long cycle, or
+    // where the list is empty that nothing went wrong. The list is empty exactly where the status says
+    // so. What the laws above say of lists of findings holds of this list.
     ensures { TextsTellFindings }
 {
     waits_lead_to_told_cycles();

@@ -2,6 +2,7 @@
 ghost use Rattle.std.specs.Prelude.{◌≡◌, None, MatchOption};
 ghost use Rattle.tj_why.specs.Inner.Readings.{AreRead, IsFlagTaken, IsNumberTaken};
 ghost use Rattle.tj_why.specs.WhyLine.{HasNoForm, IsCommand, asked, nothing};
+ghost use Rattle.tj_why.specs.WhyLine as spec;
 
 use crate::line_word::{Flag, LineWord, OptionName};
 use crate::telling::Telling;
@@ -12,6 +13,8 @@ use tj_command::{Limits, is_short_numeral, number_up_to};
 pub struct WhyCommand {
     pub limits: Limits,
     pub telling: Telling,
+    /// No source lines stand below failures and members of cycles.
+    pub short: bool,
 }
 
 // What the words up to one of them say.
@@ -20,6 +23,8 @@ struct Said {
     cells: Option<u32>,
     steps: Option<u32>,
     strict: bool,
+    short: bool,
+    json: bool,
     telling: Option<Telling>,
 }
 
@@ -31,6 +36,8 @@ pub fn command_of(words: &[String]) -> Option<WhyCommand>
         cells: None,
         steps: None,
         strict: false,
+        short: false,
+        json: false,
         telling: None,
     };
     Some(said_by(nothing, words)?.asked())
@@ -76,23 +83,29 @@ impl Said {
         }
     }
 
-    // With a flag, or None where it, or of `--all` and `--dot` either, was said.
+    // With a flag, or None where it was said, or `--dot` and one of `--all` and `--json` would be.
     fn with_flag(self, flag: Flag) -> Option<Said>
         ensures { IsFlagTaken self flag result }
     {
-        match (flag, self.strict, self.telling) {
-            (Flag::Strict, false, _) => Some(Said {
+        match (flag, self.strict, self.short, self.json, self.telling) {
+            (Flag::Strict, false, _, _, _) => Some(Said {
                 strict: true,
                 ..self
             }),
-            (Flag::All, _, None) => Some(Said {
+            (Flag::Short, _, false, _, _) => Some(Said {
+                short: true,
+                ..self
+            }),
+            (Flag::All, _, _, _, None) => Some(Said {
                 telling: Some(Telling::All),
                 ..self
             }),
-            (Flag::Dot, _, None) => Some(Said {
+            (Flag::Dot, _, _, false, None) => Some(Said {
                 telling: Some(Telling::Dot),
                 ..self
             }),
+            (Flag::Json, _, _, false, None | Some(Telling::Wrong | Telling::All | Telling::Json)) =>
+                Some(Said { json: true, ..self }),
             _ => None,
         }
     }
@@ -107,7 +120,19 @@ impl Said {
                 steps: self.steps.unwrap_or(100_000),
                 strict: self.strict,
             },
-            telling: self.telling.unwrap_or(Telling::Wrong),
+            telling: chosen(self.json, self.telling),
+            short: self.short,
         }
+    }
+}
+
+// How what went wrong is told, where this was said.
+fn chosen(json: bool, telling: Option<Telling>) -> Telling
+    ensures { result ≡ spec.chosen json telling }
+{
+    if json {
+        Telling::Json
+    } else {
+        telling.unwrap_or(Telling::Wrong)
     }
 }

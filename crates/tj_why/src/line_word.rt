@@ -17,8 +17,10 @@ pub enum OptionName {
 #[derive(Clone, Copy)]
 pub enum Flag {
     Strict,
+    Short,
     All,
     Dot,
+    Json,
 }
 
 /// The word of an option.
@@ -38,8 +40,10 @@ impl LineWord {
             "--cells" => Some(LineWord::Numbered(OptionName::Cells)),
             "--steps" => Some(LineWord::Numbered(OptionName::Steps)),
             "--strict" => Some(LineWord::Alone(Flag::Strict)),
+            "--short" => Some(LineWord::Alone(Flag::Short)),
             "--all" => Some(LineWord::Alone(Flag::All)),
             "--dot" => Some(LineWord::Alone(Flag::Dot)),
+            "--json" => Some(LineWord::Alone(Flag::Json)),
             _ => None,
         }
     }

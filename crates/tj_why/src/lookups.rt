@@ -13,6 +13,8 @@ pub type Numbers = BTreeMap<Name, usize>;
 pub struct Lookups<'t> {
     pub lines: &'t [TraceLine],
     pub owners: Numbers,
+    /// For each promise the number of the line of the task that set it.
+    pub setters: Numbers,
 }
 
 /// Cycles, and a number for each of their members.

@@ -1,11 +1,17 @@
 //! The program `tj-why`: tells what went wrong with the script on standard input, and where.
 #![tactic(auto)]
 
+mod arguments;
 mod caret;
 mod dot;
 mod echoes;
+mod fault_json;
+mod fault_words;
 mod finding;
 mod findings;
+mod fronts;
+mod json;
+mod json_parts;
 mod labels;
 mod laws;
 mod line;
@@ -13,6 +19,7 @@ mod line_word;
 mod lookups;
 mod members;
 mod owners;
+mod replies;
 mod scene;
 mod searches;
 mod telling;
@@ -21,6 +28,9 @@ mod told;
 mod told_parts;
 mod top_call;
 mod usage;
+mod wanted;
+mod went;
+mod went_lines;
 mod why;
 mod why_lines;
 mod words;

@@ -2,10 +2,13 @@
 use std::alloc::Global;
 use tj_syntax::{Script, ScriptPlaces};
 
-/// A script, and where its parts stand; and the allocator of the texts.
+/// A script, where its parts stand, and its text; whether no lines of this are told; and the allocator of
+/// what is told.
 #[derive(Clone, Copy)]
 pub struct Scene<'s> {
     pub alloc: Global,
     pub script: &'s Script,
     pub places: &'s ScriptPlaces,
+    pub text: &'s [u8],
+    pub short: bool,
 }

@@ -10,6 +10,7 @@ ghost use Rattle.tj_trace.specs.Traces.{names_of};
 ghost use Rattle.tj_why.specs.Echoes as echoes;
 ghost use Rattle.tj_why.specs.Inner.Numbers.{IsNumberOf, IsSearchable};
 ghost use Rattle.tj_why.specs.Searches as spec;
+ghost use Rattle.tj_why.specs.Went as ways;
 
 use crate::lookups::Lookups;
 use std::cmp::Ordering;
@@ -78,6 +79,16 @@ pub fn owner_of<'t>(lookups: &Lookups<'t>, cell: &Name) -> Option<&'t TraceLine>
         ≡ spec.owner_of lookups.now.lines.now cell.now }
 {
     line_with(lookups.lines, owner_number(lookups, cell))
+}
+
+/// The line of the task that set the promise.
+#[tactic(auto, using(crate::proofs::LineNumbers::at_number))]
+pub fn setter_of<'t>(lookups: &Lookups<'t>, promise: &Name) -> Option<&'t TraceLine>
+    requires lookups { IsSearchable lookups.now }
+    ensures { option_map (λ line. line.now) result
+        ≡ ways.setter_of lookups.now.lines.now promise.now }
+{
+    line_with(lookups.lines, lookups.setters.get(promise).copied())
 }
 
 /// The number of the line of the task whose end broke the cell.

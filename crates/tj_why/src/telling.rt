@@ -9,4 +9,6 @@ pub enum Telling {
     All,
     /// As a graph for Graphviz.
     Dot,
+    /// As objects of JSON, one for each finding.
+    Json,
 }

@@ -12,19 +12,18 @@ ghost use Rattle.tj_ports.specs.Reading.{IsWithin};
 ghost use Rattle.tj_syntax.specs.Faults.{IsScript, kinds_of};
 ghost use Rattle.tj_syntax.specs.View as view;
 ghost use Rattle.tj_trace.specs.TraceLaws.{script_program};
-ghost use Rattle.tj_why.specs.Carets as carets;
+ghost use Rattle.tj_why.specs.Tellings as tellings;
 ghost use Rattle.tj_why.specs.WhyOutput as outputs;
 ghost use Rattle.tj_why.specs.WhyOutput.{IsCommandOutput, IsToldRun};
-ghost use Rattle.tj_why.specs.WhyTexts.{fine_text};
 
-use crate::caret::fault_text;
 use crate::line::WhyCommand;
+use crate::replies::{fault_told, fine_told, full_told};
+use crate::scene::Scene;
 use crate::telling::Telling;
 use crate::why::why_text;
-use crate::why_lines::fine_text;
 use std::alloc::Global;
 use tj_base::Oom;
-use tj_command::{Limits, Output, Status, full_line, status_of};
+use tj_command::{Limits, Output, Status, status_of};
 use tj_eval::{PlacedBody, Sizes, main_body, placed_main};
 use tj_lex::{Token, tokens};
 use tj_mean::{Outcome, PlanFault, marked, plan};
@@ -43,7 +42,13 @@ pub fn told_of(alloc: Global, command: WhyCommand, input: &ReadEnd) -> Result<Ou
         ReadEnd::Whole(text) => told_of_text(alloc, command, text.items()),
         ReadEnd::Long(text) => {
             let at = position_behind(text.items());
-            told_fault(alloc, text.items(), NoScript::Long(at))
+            told_fault(
+                alloc,
+                command.telling,
+                text.items(),
+                &[],
+                NoScript::Long(at),
+            )
         }
     }
 }
@@ -57,30 +62,44 @@ fn told_of_text(alloc: Global, command: WhyCommand, text: &[u8]) -> Result<Outpu
 {
     let found = match tokens(alloc, text) {
         Ok(found) => found,
-        Err(fault) => return told_fault(alloc, text, NoScript::Tokens(fault)),
+        Err(fault) => return told_fault(alloc, command.telling, text, &[], NoScript::Tokens(fault)),
     };
     match parse(alloc, found.as_slice()) {
-        Ok(script) => told_script(alloc, command, found.as_slice(), &script),
-        Err(fault) => told_fault(alloc, text, NoScript::Grammar(fault)),
+        Ok(script) => told_script(alloc, command, text, found.as_slice(), &script),
+        Err(fault) => told_fault(
+            alloc,
+            command.telling,
+            text,
+            found.as_slice(),
+            NoScript::Grammar(fault),
+        ),
     }
 }
 
-// The fault of a text.
-fn told_fault(alloc: Global, text: &[u8], fault: NoScript) -> Result<Output, Oom>
+// The fault of a text with these tokens.
+fn told_fault(
+    alloc: Global,
+    telling: Telling,
+    text: &[u8],
+    tokens: &[Token],
+    fault: NoScript,
+) -> Result<Output, Oom>
     ensures status { IfOk result (λ output. output.status ≡ Status.Script) }
-    ensures text { IfOk result (λ output. output.text.items ≡ carets.fault_text text.now fault) }
+    ensures text { IfOk result (λ output.
+        output.text.items ≡ tellings.fault_told telling text.now tokens.now fault) }
     ensures none { IfOk result (λ _. ¬ IsMemory fault) }
 {
     Ok(Output {
         status: Status::Script,
-        text: fault_text(alloc, text, fault)?,
+        text: fault_told(alloc, telling, text, tokens, fault)?,
     })
 }
 
-// What is told of the run of a script with these tokens.
+// What is told of the run of a script with this text and these tokens.
 fn told_script(
     alloc: Global,
     command: WhyCommand,
+    text: &[u8],
     tokens: &[Token],
     script: &Script,
 ) -> Result<Output, Oom>
@@ -88,7 +107,7 @@ fn told_script(
     requires script { IsScript (kinds_of tokens.now) (view.script script.now) }
     ensures { IfOk result (λ output. (root : PlacedState)
         × IsPlacedMain (view.script script.now) command.limits.steps root
-        × IsToldRun command (view.script script.now) tokens.now root output.status
+        × IsToldRun command text.now (view.script script.now) tokens.now root output.status
         output.text.items) }
 {
     let Limits {
@@ -99,10 +118,10 @@ fn told_script(
     let sizes = Sizes::of(alloc, script)?;
     let root = placed_main(alloc, script, &sizes, steps)?;
     match plan(alloc, &main_body(alloc, script, steps)?, cells, strict) {
-        Ok(outcome) => told_outcome(alloc, command, tokens, script, &root, &outcome),
+        Ok(outcome) => told_outcome(alloc, command, text, tokens, script, &root, &outcome),
         Err(PlanFault::Full) => Ok(Output {
             status: Status::Full,
-            text: full_line(alloc, cells)?,
+            text: full_told(alloc, command.telling, cells)?,
         }),
         Err(PlanFault::Oom) => Err(Oom),
     }
@@ -113,6 +132,7 @@ fn told_script(
 fn told_outcome(
     alloc: Global,
     command: WhyCommand,
+    text: &[u8],
     tokens: &[Token],
     script: &Script,
     root: &PlacedBody,
@@ -124,13 +144,13 @@ fn told_outcome(
         command.limits.cells }
     requires outcome { IsOutcome (meaning (script_program command.limits.strict root.now)
         command.limits.cells) outcome.now }
-    ensures { IfOk result (λ output. IsToldRun command (view.script script.now) tokens.now
+    ensures { IfOk result (λ output. IsToldRun command text.now (view.script script.now) tokens.now
         root.now output.status output.text.items) }
 {
     if tells_lines(command.telling, marked(outcome)) {
-        told_traced(alloc, command, tokens, script, root, outcome)
+        told_traced(alloc, command, text, tokens, script, root, outcome)
     } else {
-        told_fine(alloc, outcome)
+        told_fine(alloc, command.telling, outcome)
     }
 }
 
@@ -139,20 +159,20 @@ fn tells_lines(telling: Telling, marked: bool) -> bool
     ensures { result ≡ outputs.tells_lines telling marked }
 {
     match telling {
-        Telling::Wrong | Telling::All => marked,
+        Telling::Wrong | Telling::All | Telling::Json => marked,
         Telling::Dot => true,
     }
 }
 
 // What is told of a run in which nothing went wrong.
-fn told_fine(alloc: Global, outcome: &Outcome) -> Result<Output, Oom>
+fn told_fine(alloc: Global, telling: Telling, outcome: &Outcome) -> Result<Output, Oom>
     ensures status { IfOk result (λ output. output.status ≡ Status.Clean) }
     ensures text { IfOk result (λ output.
-        output.text.items ≡ fine_text (length outcome.now.lines)) }
+        output.text.items ≡ tellings.fine_told telling (length outcome.now.lines)) }
 {
     Ok(Output {
         status: Status::Clean,
-        text: fine_text(alloc, outcome.lines.items().len())?,
+        text: fine_told(alloc, telling, outcome.lines.items().len())?,
     })
 }
 
@@ -160,6 +180,7 @@ fn told_fine(alloc: Global, outcome: &Outcome) -> Result<Output, Oom>
 fn told_traced(
     alloc: Global,
     command: WhyCommand,
+    text: &[u8],
     tokens: &[Token],
     script: &Script,
     root: &PlacedBody,
@@ -171,7 +192,7 @@ fn told_traced(
         command.limits.cells }
     requires outcome { IsOutcome (meaning (script_program command.limits.strict root.now)
         command.limits.cells) outcome.now }
-    ensures { IfOk result (λ output. IsToldRun command (view.script script.now) tokens.now
+    ensures { IfOk result (λ output. IsToldRun command text.now (view.script script.now) tokens.now
         root.now output.status output.text.items) }
 {
     let Limits { cells, strict, .. } = command.limits;
@@ -180,15 +201,15 @@ fn told_traced(
         return Err(Oom);
     };
     let places = places(alloc, tokens)?;
+    let scene = Scene {
+        alloc,
+        script,
+        places: &places,
+        text,
+        short: command.short,
+    };
     Ok(Output {
         status: status_of(marked(outcome)),
-        text: why_text(
-            alloc,
-            script,
-            &places,
-            lines.items(),
-            outcome,
-            command.telling,
-        )?,
+        text: why_text(&scene, lines.items(), outcome, command.telling)?,
     })
 }

@@ -4,9 +4,11 @@ ghost use Rattle.std.specs.Option.{option_map};
 ghost use Rattle.tj_why.specs.Findings as spec;
 ghost use Rattle.tj_why.specs.Inner.Numbers.{IsSearchable};
 
+use crate::arguments::copy_values;
 use crate::finding::{Stop, ToldCell, ToldTask, Wait};
 use crate::lookups::Lookups;
 use crate::searches::{maker_of, owner_of};
+use crate::went::went_at;
 use std::alloc::Global;
 use tj_base::{Cause, Name, Oom};
 use tj_mean::Ending;
@@ -34,6 +36,8 @@ pub fn told_task(alloc: Global, lookups: &Lookups, line: &TraceLine) -> Result<T
         fork: maker_of(lookups, &line.line.name),
         stop: stop_of(&line.line.ending),
         at: line.at,
+        began: copy_values(alloc, line.began.items())?,
+        went: went_at(alloc, lookups, line)?,
     })
 }
 

@@ -1,49 +1,41 @@
 //! What is told of an outcome.
 ghost use Rattle.std.specs.Prelude.{◌≡◌, IfOk};
 ghost use Rattle.tj_mean.specs.Outcomes.{Ascend};
-ghost use Rattle.tj_syntax.specs.PlacesOf as places_of;
-ghost use Rattle.tj_syntax.specs.View as trees;
 ghost use Rattle.tj_trace.specs.Traces.{names_of};
 ghost use Rattle.tj_why.specs.DotTexts as dots;
+ghost use Rattle.tj_why.specs.JsonTexts as json;
 ghost use Rattle.tj_why.specs.Scenes.{view};
 ghost use Rattle.tj_why.specs.Tellings as tellings;
 ghost use Rattle.tj_why.specs.WhyTexts as spec;
 
 use crate::dot::dot_text;
 use crate::findings::findings_of;
+use crate::json::{findings_json, fine_json};
 use crate::members::members_of;
 use crate::owners::lookups_of;
 use crate::scene::Scene;
 use crate::telling::Telling;
 use crate::why_lines::{findings_text, fine_text};
-use std::alloc::Global;
 use tj_base::Oom;
 use tj_mean::{LinkList, Outcome, marked};
-use tj_syntax::{Script, ScriptPlaces};
 use tj_trace::TraceLine;
 
 /// What is told of the outcome of a script's run, with these lines of a trace.
 pub fn why_text(
-    alloc: Global,
-    script: &Script,
-    places: &ScriptPlaces,
+    scene: &Scene,
     lines: &[TraceLine],
     outcome: &Outcome,
     telling: Telling,
 ) -> Result<Vec<u8>, Oom>
     requires { Ascend (names_of lines.now) }
-    ensures { IfOk result (λ text. text.items ≡ tellings.why_text (trees.script script.now)
-        (places_of.view places.now) lines.now outcome.now telling) }
+    ensures { IfOk result (λ text.
+        text.items ≡ tellings.why_text (view scene.now) lines.now outcome.now telling) }
 {
-    let scene = Scene {
-        alloc,
-        script,
-        places,
-    };
     match telling {
-        Telling::Wrong => told_text(&scene, lines, outcome, false),
-        Telling::All => told_text(&scene, lines, outcome, true),
-        Telling::Dot => picture(&scene, lines, outcome.cycles.items()),
+        Telling::Wrong => told_text(scene, lines, outcome, false),
+        Telling::All => told_text(scene, lines, outcome, true),
+        Telling::Dot => picture(scene, lines, outcome.cycles.items()),
+        Telling::Json => told_json(scene, lines, outcome),
     }
 }
 
@@ -64,6 +56,20 @@ fn told_text(
     let lookups = lookups_of(scene.alloc, lines)?;
     let findings = findings_of(scene.alloc, &lookups, outcome.cycles.items())?;
     findings_text(scene, all, findings.as_slice())
+}
+
+/// What is told of an outcome as objects of JSON.
+fn told_json(scene: &Scene, lines: &[TraceLine], outcome: &Outcome) -> Result<Vec<u8>, Oom>
+    requires { Ascend (names_of lines.now) }
+    ensures { IfOk result (λ text.
+        text.items ≡ json.told_json (view scene.now) lines.now outcome.now) }
+{
+    if !marked(outcome) {
+        return fine_json(scene.alloc, lines.len());
+    }
+    let lookups = lookups_of(scene.alloc, lines)?;
+    let findings = findings_of(scene.alloc, &lookups, outcome.cycles.items())?;
+    findings_json(scene, findings.as_slice())
 }
 
 /// The picture.

@@ -7,10 +7,12 @@ ghost use Rattle.tj_why.specs.Scenes as stands;
 ghost use Rattle.tj_why.specs.Scenes.{view};
 ghost use Rattle.tj_why.specs.WhyTexts as spec;
 
+use crate::caret::caret_at;
 use crate::finding::{Finding, Stop, ToldCell, ToldTask, Wait};
-use crate::labels::{spot_text, stop_text, task_at};
+use crate::labels::{spot_text, stop_text, task_at, told_spot};
 use crate::scene::Scene;
 use crate::texts::{by_stop, joined, named};
+use crate::went_lines::went_text;
 use std::alloc::Global;
 use tj_base::{Cause, Name, Oom, Sort};
 use tj_command::count_text;
@@ -66,7 +68,7 @@ fn promise_text(scene: &Scene, promise: &ToldCell) -> Result<Vec<u8>, Oom>
 }
 
 /// Whether a cell is a promise, by what made it.
-fn is_promise(maker: Option<Maker>) -> bool
+pub fn is_promise(maker: Option<Maker>) -> bool
     ensures { result ≡ spec.is_promise maker }
 {
     match maker {
@@ -111,15 +113,30 @@ fn wait_line(scene: &Scene, wait: &Wait) -> Result<Vec<u8>, Oom>
     )
 }
 
-/// A line for a member of a cycle.
+/// The source line where a task stopped, with a caret, if such lines are told.
+fn source_line(scene: &Scene, task: &ToldTask) -> Result<Vec<u8>, Oom>
+    ensures { IfOk result (λ text. text.items ≡ spec.source_line (view scene.now) task.now) }
+{
+    if scene.short {
+        return Ok(Vec::new(scene.alloc));
+    }
+    caret_at(
+        scene.alloc,
+        scene.text,
+        told_spot(scene, task.decl, task.at),
+    )
+}
+
+/// The lines for a member of a cycle.
 fn member(scene: &Scene, wait: &Wait) -> Result<Vec<u8>, Oom>
     ensures { IfOk result (λ text. text.items ≡ spec.member (view scene.now) wait.now) }
 {
+    let source = source_line(scene, &wait.task)?;
     let wait = wait_line(scene, wait)?;
-    joined(scene.alloc, &[b"  ", wait.as_slice()])
+    joined(scene.alloc, &[b"  ", wait.as_slice(), source.as_slice()])
 }
 
-/// A line for each of these members.
+/// The lines for each of these members.
 fn each_member(scene: &Scene, waits: &[Wait]) -> Result<Vec<u8>, Oom>
     ensures { IfOk result (λ text.
         text.items ≡ flat_map (spec.member (view scene.now)) waits.now) }
@@ -257,7 +274,17 @@ fn failed_text(scene: &Scene, task: &ToldTask) -> Result<Vec<u8>, Oom>
     joined(scene.alloc, &[b"failed: ", task.as_slice()])
 }
 
-/// A line for a failure that is no echo.
+/// Where the cell was made that the cause names, and where it went.
+fn about_text(scene: &Scene, task: &ToldTask, about: Option<Maker>) -> Result<Vec<u8>, Oom>
+    ensures { IfOk result (λ text. text.items
+        ≡ spec.about_text (view scene.now) task.now about) }
+{
+    let made = made_text(scene, about)?;
+    let went = went_text(scene, task.decl, &task.went)?;
+    joined(scene.alloc, &[made.as_slice(), went.as_slice()])
+}
+
+/// The lines for a failure that is no echo.
 fn failed_line(
     scene: &Scene,
     task: &ToldTask,
@@ -267,9 +294,10 @@ fn failed_line(
     ensures { IfOk result (λ text. text.items
         ≡ spec.failed_line (view scene.now) task.now cause.now about) }
 {
+    let source = source_line(scene, task)?;
+    let about = about_text(scene, task, about)?;
     let task = failed_text(scene, task)?;
     let why = cause_text(scene.alloc, cause)?;
-    let about = made_text(scene, about)?;
     joined(
         scene.alloc,
         &[
@@ -278,6 +306,7 @@ fn failed_line(
             why.as_slice(),
             about.as_slice(),
             b"\n",
+            source.as_slice(),
         ],
     )
 }

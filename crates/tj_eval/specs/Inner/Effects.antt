@@ -8,7 +8,7 @@ use Rattle.tj_eval.specs.declared.fork.Passed.{Passed}
 use Rattle.tj_eval.specs.declared.halt.Halt.{Halt}
 use Rattle.tj_eval.specs.declared.halt.Halt.TheVariants.{Fault, Memory}
 use Rattle.tj_eval.specs.Statements.{TaskState, Effect, goes_on, asks, fails, place, arguments, forked, fork_of, Next}
-use Rattle.tj_eval.specs.Statements.{as_passed, references, begun, ended, kept, next_ask, next_from, value_in}
+use Rattle.tj_eval.specs.Statements.{as_passed, references, begun, ended, failed, kept, next_ask, next_from, value_in}
 use Rattle.tj_base.specs.declared.value.Pay.{Pay}
 use Rattle.tj_base.specs.declared.value.Pay.TheVariants as pay
 use Rattle.tj_syntax.specs.Trees as tree
@@ -64,13 +64,13 @@ ComesToAsk shown old (Ok (Some s)) new =
     (next_ask old.steps old ≡ next_from new (begun new (shown s)) (next_ask new.steps))
     × (is_ask (shown s) ≡ true) × (new.script ≡ old.script)
 ComesToAsk shown old (Ok None) new = next_ask old.steps old ≡ (ask.End (pay.Num (pos 0)), ended new)
-ComesToAsk shown old (Err (Fault fault)) new = next_ask old.steps old ≡ (ask.Fail fault, ended new)
+ComesToAsk shown old (Err (Fault fault)) new = next_ask old.steps old ≡ (ask.Fail fault, failed new)
 ComesToAsk shown old (Err Memory) new = Unit {0}
 
 -- the next ask, with the task from then on; where it fails, the task has still to end
 abbrev pub IsNext : Next → Result (Ask TaskState) Halt → TaskState → Type 0
 IsNext next (Ok ask) new = (ask ≡ next.0) × (new ≡ next.1)
-IsNext next (Err (Fault fault)) new = next ≡ (ask.Fail fault, ended new)
+IsNext next (Err (Fault fault)) new = next ≡ (ask.Fail fault, failed new)
 IsNext next (Err Memory) new = Unit {0}
 
 -- the ask, and the task from then on

@@ -27,9 +27,9 @@ use Rattle.tj_syntax.specs.Trees.{Argument, Given, Statement, Statements, Task}
 use Rattle.tj_syntax.specs.Trees as tree
 use Rattle.tj_eval.specs.Expressions.{Computed, with_number, with_reference, exact, is_i64, applied, compares, truth}
 use Rattle.tj_eval.specs.Expressions.{held, value, chained}
-use Rattle.tj_eval.specs.Statements.{TaskState, Effect, goes_on, asks, fails, Next, ended, kept, value_in, then_effect}
-use Rattle.tj_eval.specs.Statements.{number, reference, Due, start, place, cell, cell_or, done, over, next_from}
-use Rattle.tj_eval.specs.Statements.{next_of, next_ask, next_after, next, begun, given, asked, forked, answered}
+use Rattle.tj_eval.specs.Statements.{TaskState, Effect, goes_on, asks, fails, Next, ended, failed, kept, value_in}
+use Rattle.tj_eval.specs.Statements.{then_effect, number, reference, Due, start, place, cell, cell_or, done, over}
+use Rattle.tj_eval.specs.Statements.{next_from, next_of, next_ask, next_after, next, begun, given, asked, forked, answered}
 use Rattle.tj_eval.specs.Statements.{answered_or_else, value_of, kept_if, or_else_of, reference_of, argument, arguments}
 use Rattle.tj_eval.specs.Statements.{and_more, references, handed, as_passed, task_of, fork_of, first}
 use Rattle.tj_eval.specs.Bodies.{all_have_few_params, has_few_params, most_params, script_places, script_awaits}
@@ -382,8 +382,13 @@ good-begun t (tree.repeat e body) h = good-effect (λ _. Unit {0}) t (number (va
     (any (number (value_in t e))) (λ n _. (sound-first t _ h, refl))
 
 -- Whole paths to the next ask.
-good-fail : (n : ℕ) (t : TaskState) (fault : Trouble) → IsGood n t.places (ask.Fail fault) (ended t)
-good-fail n t fault = good-end n t (ask.Fail fault) tt refl tt
+good-fail : (n : ℕ) (t : TaskState) (fault : Trouble) → IsGood n t.places (ask.Fail fault) (failed t)
+good-fail n t fault = record {
+  falls = inl tt;
+  awaits = nothing_or_nothing (is_sound (failed t));
+  places = refl;
+  placed = tt;
+}
 
 good-next_of : (n : ℕ) (t : TaskState) (rest : List Statement) (go : Statement → List Statement → Next)
     → ((s : Statement) (more : List Statement) → Good n t.places (go s more)) → Good n t.places (next_of t rest go)

@@ -4,11 +4,8 @@ use Rattle.std.proofs.Common.{refl, sym, ap, ◌∙◌, subst, arith, append-nil
 use Rattle.std.specs.Prelude.{slice_set}
 use Rattle.tj_base.specs.ForkOrder.{Name}
 use Rattle.tj_body.specs.History.{Assignment, start}
-use Rattle.tj_body.specs.Points.{IsIn, HasEnded, HasStopped}
+use Rattle.tj_body.specs.Points.{IsIn, HasStopped}
 use Rattle.tj_body.specs.declared.point.Entry.{Entry}
-use Rattle.tj_body.specs.declared.point.PointStage.{PointStage}
-use Rattle.tj_body.specs.declared.point.PointStage.TheVariants as stage
-use Rattle.tj_body.specs.declared.point.Reference.{Reference}
 use Rattle.tj_body.specs.declared.point.Task.{Task}
 use Rattle.tj_body.specs.declared.point.Point.{Point}
 use Rattle.tj_body.proofs.Counts.{total}
@@ -40,15 +37,13 @@ module _ {A : Type 0} where
   total_set f (z ∷ zs) (suc i) x d h = let r = total_set f zs i x d (omega arith) in omega arith
 
 module _ {B : Type 0} where
-  -- q is the point p without what was handed on, and, if it has ended, without its references
+  -- q is the point p without what was handed on
   pub record IsKept (q p : Point B) : Type 0 where
     pub handed_children : List (Task B)
     pub handed_writes : List (Name × Entry)
-    pub all_references : List Reference
-    pub stands_for : p ≡ record q { children = handed_children; writes = handed_writes; references = all_references }
+    pub stands_for : p ≡ record q { children = handed_children; writes = handed_writes }
     pub no_children : q.children ≡ []
     pub no_writes : q.writes ≡ []
-    pub goes_on : HasEnded q ⊎ (all_references ≡ q.references)
 
   -- each of the first points is one of the second so
   abbrev pub AreKept : List (Point B) → List (Point B) → Type 0
@@ -83,11 +78,9 @@ module _ {B : Type 0} where
   kept_start c = record {
     handed_children = [];
     handed_writes = [];
-    all_references = (start c).references;
     stands_for = refl;
     no_children = refl;
     no_writes = refl;
-    goes_on = inr refl;
   }
 
   -- tasks that begin
@@ -130,46 +123,29 @@ module _ {B : Type 0} where
       subst (HasStopped V) (sym (e ∙ a.0.stands_for)) (h q (inl refl))
   kept_stopped V (q ∷ qs) (x ∷ ps) a h p (inr i) = kept_stopped V qs ps a.1 (λ r j. h r (inr j)) p i
 
-  -- a kept point that hasn't ended is the whole point without a front
-  pub kept_front : (q p : Point B) (k : IsKept q p) → ¬ HasEnded q
-      → p ≡ with_front k.handed_children k.handed_writes q
-  kept_front q p k n = by k.goes_on where
+  -- a kept point is the whole point without a front
+  pub kept_front : (q p : Point B) (k : IsKept q p) → p ≡ with_front k.handed_children k.handed_writes q
+  kept_front q p k = k.stands_for ∙ whole where
     children : k.handed_children ≡ k.handed_children ++ q.children
     children = sym (append-nil k.handed_children) ∙ ap (λ z. k.handed_children ++ z) (sym k.no_children)
 
     writes : k.handed_writes ≡ k.handed_writes ++ q.writes
     writes = sym (append-nil k.handed_writes) ∙ ap (λ z. k.handed_writes ++ z) (sym k.no_writes)
 
-    by : HasEnded q ⊎ (k.all_references ≡ q.references) → p ≡ with_front k.handed_children k.handed_writes q
-    by (inl e) = absurd (n e)
-    by (inr r) =
-        let whole : record q { children = k.handed_children; writes = k.handed_writes; references = k.all_references }
-        ≡ with_front k.handed_children k.handed_writes q =
-        λ i. record q { children = children i; writes = writes i; references = r i } in
-        k.stands_for ∙ whole
-
-  kept_by : (cs : List (Task B)) (ws : List (Name × Entry)) (q r : Point B)
-      → with_front cs ws q ≡ record r {
-        children = cs ++ q.children;
-        writes = ws ++ q.writes;
-        references = q.references;
-      }
-      → r.children ≡ [] → r.writes ≡ [] → HasEnded r ⊎ (q.references ≡ r.references) → IsKept r (with_front cs ws q)
-  kept_by cs ws q r is none wrote goes = record {
-    handed_children = cs ++ q.children;
-    handed_writes = ws ++ q.writes;
-    all_references = q.references;
-    stands_for = is;
-    no_children = none;
-    no_writes = wrote;
-    goes_on = goes;
-  }
+    whole : record q { children = k.handed_children; writes = k.handed_writes }
+        ≡ with_front k.handed_children k.handed_writes q
+    whole = λ i. record q { children = children i; writes = writes i }
 
   -- what is left when it was handed on is kept
-  pub kept_emptied : (cs : List (Task B)) (ws : List (Name × Entry)) (q : Point B) (s : PointStage) → q.stage ≡ s
-      → IsKept (emptied s q) (with_front cs ws q)
-  kept_emptied cs ws q (stage.Closed c) e = kept_by cs ws q (emptied (stage.Closed c) q) refl refl refl (inl (c, e))
-  kept_emptied cs ws q s e = kept_by cs ws q (emptied s q) refl refl refl (inr refl)
+  pub kept_emptied : (cs : List (Task B)) (ws : List (Name × Entry)) (q : Point B)
+      → IsKept (emptied q) (with_front cs ws q)
+  kept_emptied cs ws q = record {
+    handed_children = cs ++ q.children;
+    handed_writes = ws ++ q.writes;
+    stands_for = refl;
+    no_children = refl;
+    no_writes = refl;
+  }
 
 -- an element at an index doesn't hang on what stands for none
 pub any_default : {A : Type 0} (l : List A) (i : ℕ) → i < length l → (d e : A) → get_or l i d ≡ get_or l i e

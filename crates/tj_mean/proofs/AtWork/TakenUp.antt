@@ -54,7 +54,7 @@ module _ {B : Type 0} (program : Program B) (obeys : AreLawful program.rules)
 
     -- its task can go on from its point
     pub good_point : IsGood program.rules q
-    good_point = good_here program obeys proper N E qs room w at can.0 q here going
+    good_point = good_here program obeys proper N E qs room w at can.0 q here
 
     module _ (r : Point B) (reached : Reaches program.rules E q r) (a : Point B) (a_is : a ≡ get_or qs at a) where
       a_made : a.made ≡ q.made
@@ -64,18 +64,18 @@ module _ {B : Type 0} (program : Program B) (obeys : AreLawful program.rules)
       pub full_point : a.made + room < r.made → IsFull program N
       full_point l =
           let m = a_made in
-          full_here program obeys proper N E qs room w at can.0 q here going r reached (omega arith)
+          full_here program obeys proper N E qs room w at can.0 q here r reached (omega arith)
 
       module _ (r1 r2 e : Point B) (r1_is : r1 ≡ get_or (slice_set qs at r) at r1)
-          (r2_is : r2 ≡ get_or (slice_set qs at r) at r2) (e_is : e ≡ emptied r2.stage r2)
+          (r2_is : r2 ≡ get_or (slice_set qs at r) at r2) (e_is : e ≡ emptied r2)
           (cs : List (Task B)) (cs_are : cs ≡ r2.children) (ws : List (Name × Entry)) (ws_are : ws ≡ r2.writes)
           (F : Assignment) (enters : Enters ws E F) (rest : List (Point B))
           (rest_is : rest ≡ slice_set (slice_set qs at r) at e ++ map start cs) (fits : r.made ≤ a.made + room) where
         r2_same : r2 ≡ r
         r2_same = r2_is ∙ get_or-set_same qs at r r2 can.0
 
-        e_same : e ≡ emptied r.stage r
-        e_same = e_is ∙ ap (λ (p : Point B). emptied p.stage p) r2_same
+        e_same : e ≡ emptied r
+        e_same = e_is ∙ ap (λ (p : Point B). emptied p) r2_same
 
         cs_same : cs ≡ r.children
         cs_same = cs_are ∙ ap (λ (p : Point B). p.children) r2_same
@@ -83,11 +83,11 @@ module _ {B : Type 0} (program : Program B) (obeys : AreLawful program.rules)
         ws_same : ws ≡ r.writes
         ws_same = ws_are ∙ ap (λ (p : Point B). p.writes) r2_same
 
-        rest_same : rest ≡ slice_set qs at (emptied r.stage r) ++ map (λ c. start c) r.children
+        rest_same : rest ≡ slice_set qs at (emptied r) ++ map (λ c. start c) r.children
         rest_same = rest_is
             ∙ ap (λ l. l ++ map (λ c. start c) cs) (set-set qs at r e)
             ∙ ap (λ p. slice_set qs at p ++ map (λ c. start c) cs) e_same
-            ∙ ap (λ l. slice_set qs at (emptied r.stage r) ++ map (λ c. start c) l) cs_same
+            ∙ ap (λ l. slice_set qs at (emptied r) ++ map (λ c. start c) l) cs_same
 
         enters_same : Enters r.writes E F
         enters_same = subst (λ l. Enters l E F) ws_same enters
@@ -100,13 +100,13 @@ module _ {B : Type 0} (program : Program B) (obeys : AreLawful program.rules)
 
         -- the tasks are at work
         at_work : IsAtWork program N F rest ((a.made + room) - r1.made)
-        at_work = goes_on program obeys proper N E qs room w at can.0 q here going r reached rest F
+        at_work = goes_on program obeys proper N E qs room w at can.0 q here r reached rest F
             ((a.made + room) - r1.made) rest_same enters_same few
 
         -- fewer steps are left
         fewer_left : (¬ HasStopped E q → weight program.rules.left r < weight program.rules.left q)
             → steps_left program.rules.left rest ((a.made + room) - r1.made) < steps_left program.rules.left qs room
-        fewer_left l = falls program obeys proper N E qs room w at can.0 q here going r reached rest F
+        fewer_left l = falls program obeys proper N E qs room w at can.0 q here r reached rest F
             ((a.made + room) - r1.made) rest_same enters_same few (l going)
 
         pub goes_on_so : GoesOn program N E qs room F rest ((a.made + room) - r1.made)

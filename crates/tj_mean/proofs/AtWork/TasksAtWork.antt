@@ -75,13 +75,11 @@ module _ {B : Type 0} where
   starts_made (c ∷ cs) = let h = starts_made cs in omega arith
 
   -- what is left of a point weighs as much
-  emptied_weight : (left : B → ℕ) (s : PointStage) (q : Point B) → weight left (emptied s q) ≡ weight left q
-  emptied_weight left (stage.Answered a) q = refl
-  emptied_weight left s q = refl
+  emptied_weight : (left : B → ℕ) (q : Point B) → weight left (emptied q) ≡ weight left q
+  emptied_weight left q = refl
 
-  emptied_made : (s : PointStage) (q : Point B) → (emptied s q).made ≡ q.made
-  emptied_made (stage.Answered a) q = refl
-  emptied_made s q = refl
+  emptied_made : (q : Point B) → (emptied q).made ≡ q.made
+  emptied_made q = refl
 
   starts_weight : (rules : Rules B) (cs : List (Task B)) → ((c : Task B) → IsIn c cs → IsProper rules c)
       → total (weight rules.left) (starts cs) ≤ most_weight * length cs
@@ -146,8 +144,7 @@ module _ {B : Type 0} (program : Program B) where
 
   module _ (obeys : AreLawful program.rules) (proper : IsProper program.rules (root_task program.root)) where
     module _ (N : ℕ) (E : Assignment) (qs : List (Point B)) (room : ℕ) (w : IsAtWork N E qs room)
-        (at : ℕ) (there : at < length qs) (q : Point B) (here : (d : Point B) → get_or qs at d ≡ q)
-        (stopped_not : ¬ HasStopped E q) where
+        (at : ℕ) (there : at < length qs) (q : Point B) (here : (d : Point B) → get_or qs at d ≡ q) where
       abbrev p : Point B
       p = get_or w.whole at q
 
@@ -158,7 +155,7 @@ module _ {B : Type 0} (program : Program B) where
       there_too = let l = kept_length qs w.whole w.kept in omega arith
 
       whole_front : p ≡ with_front kept_here.handed_children kept_here.handed_writes q
-      whole_front = kept_front q p kept_here (λ e. stopped_not (inl e))
+      whole_front = kept_front q p kept_here
 
       p_of_rounds : IsOfRounds program p
       p_of_rounds = w.stand.of_rounds p (in_at w.whole at q there_too)
@@ -228,16 +225,16 @@ module _ {B : Type 0} (program : Program B) where
 
         -- what stands where it was handed on
         module _ (rest : List (Point B)) (F : Assignment) (room' : ℕ)
-            (rest_is : rest ≡ slice_set qs at (emptied r.stage r) ++ starts r.children)
+            (rest_is : rest ≡ slice_set qs at (emptied r) ++ starts r.children)
             (enters : Enters r.writes E F) (few : room' + r.made ≡ q.made + room) where
           abbrev all : List (Point B)
           all = moved ++ starts r.children
 
           all_kept : AreKept rest all
           all_kept = subst (λ l. AreKept l all) (sym rest_is)
-              (kept_append (slice_set qs at (emptied r.stage r)) moved (starts r.children) (starts r.children)
-              (kept_set qs w.whole w.kept at (emptied r.stage r) after
-              (kept_emptied kept_here.handed_children kept_here.handed_writes r r.stage refl))
+              (kept_append (slice_set qs at (emptied r)) moved (starts r.children) (starts r.children)
+              (kept_set qs w.whole w.kept at (emptied r) after
+              (kept_emptied kept_here.handed_children kept_here.handed_writes r))
               (kept_starts r.children))
 
           child_of_rounds : (c : Task B) → IsIn c r.children → IsOfRounds program (start c)
@@ -297,12 +294,12 @@ module _ {B : Type 0} (program : Program B) where
           rest_made : made_by rest + q.made ≡ made_by qs + r.made
           rest_made =
               let a = ap (λ l. made_by l) rest_is in
-              let b = total_append (λ (z : Point B). z.made) (slice_set qs at (emptied r.stage r))
+              let b = total_append (λ (z : Point B). z.made) (slice_set qs at (emptied r))
               (starts r.children) in
-              let c = total_set (λ (z : Point B). z.made) qs at (emptied r.stage r) q there in
+              let c = total_set (λ (z : Point B). z.made) qs at (emptied r) q there in
               let d = ap (λ (z : Point B). z.made) (here q) in
               let e = starts_made r.children in
-              let f = emptied_made r.stage r in
+              let f = emptied_made r in
               omega arith
 
           pub goes_on : IsAtWork N F rest room'
@@ -320,10 +317,10 @@ module _ {B : Type 0} (program : Program B) where
           falls l =
               let left = program.rules.left in
               let a = ap (λ z. total (weight left) z) rest_is in
-              let b = total_append (weight left) (slice_set qs at (emptied r.stage r)) (starts r.children) in
-              let c = total_set (weight left) qs at (emptied r.stage r) q there in
+              let b = total_append (weight left) (slice_set qs at (emptied r)) (starts r.children) in
+              let c = total_set (weight left) qs at (emptied r) q there in
               let d = ap (λ z. weight left z) (here q) in
-              let e = emptied_weight left r.stage r in
+              let e = emptied_weight left r in
               let f = starts_weight program.rules r.children child_proper in
               let g = grows program.rules E q r reached in
               let h = ap (λ (z : List (Task B)). length z) kept_here.no_children in

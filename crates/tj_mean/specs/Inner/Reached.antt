@@ -5,8 +5,6 @@ use Rattle.tj_body.specs.History.{Assignment, after_step}
 use Rattle.tj_body.specs.Points.{HasStopped, IsIn}
 use Rattle.tj_body.specs.Programs.{Rules}
 use Rattle.tj_body.specs.declared.point.Entry.{Entry}
-use Rattle.tj_body.specs.declared.point.PointStage.{PointStage}
-use Rattle.tj_body.specs.declared.point.PointStage.TheVariants as stage
 use Rattle.tj_body.specs.declared.point.Point.{Point}
 
 module _ {B : Type 0} (rules : Rules B) (V : Assignment) where
@@ -23,11 +21,9 @@ module _ {B : Type 0} (rules : Rules B) (V : Assignment) where
 abbrev pub CanGoOn : {B : Type 0} → Assignment → List (Point B) → ℕ → Type 0
 CanGoOn {B} V points at = (at < length points) × ((d : Point B) → ¬ HasStopped V (get_or points at d))
 
--- the point without what the task has forked and written, and, where it has ended, without its references
-abbrev pub emptied : {B : Type 0} → PointStage → Point B → Point B
-emptied (stage.Answered a) p = record p { children = []; writes = [] }
-emptied (stage.Waits q spare) p = record p { children = []; writes = [] }
-emptied (stage.Closed e) p = record p { children = []; writes = []; references = [] }
+-- the point without what the task has forked and written
+abbrev pub emptied : {B : Type 0} → Point B → Point B
+emptied p = record p { children = []; writes = [] }
 
 -- W is V with what was written: each cell that was written or had an entry has one, and no other has
 pub record Enters (writes : List (Name × Entry)) (V W : Assignment) : Type 0 where

@@ -1,6 +1,6 @@
 -- How the tokens are read, rule by rule. `proofs/` show that what is read is the grammar's.
 use Rattle.std.specs.Prelude.{ℕ, zero, suc, if◌then◌else◌, List, [], ◌∷◌, ◌++◌, length, map, Option, Some, None, Ok}
-use Rattle.std.specs.Prelude.{nat_eq}
+use Rattle.std.specs.Prelude.{Bool, true, false, ◌&&◌, nat_eq}
 use Rattle.tj_lex.specs.declared.token.Tok.{Tok}
 use Rattle.tj_lex.specs.declared.token.Tok.TheVariants as toks
 use Rattle.tj_lex.specs.declared.token.Key.TheVariants as k
@@ -95,6 +95,26 @@ unary_by inner grouped room _ = refuse
 unfoldable pub unary : ℕ → Parser Expression
 unary zero = peek >>= unary_by refuse refuse zero
 unary (suc room) = peek >>= unary_by (unary room) (expression_over (unary room)) (suc room)
+
+-- whether a token is an operand by itself
+abbrev pub is_leaf : Tok → Bool
+is_leaf (toks.Num n) = true
+is_leaf (toks.Name x) = true
+is_leaf (toks.Key k.Me) = true
+is_leaf _ = false
+
+-- whether an expression ends in front of this token
+abbrev pub ends_expression : Tok → Bool
+ends_expression (toks.Mark m.Semi) = true
+ends_expression (toks.Mark m.Comma) = true
+ends_expression (toks.Mark m.ParenClose) = true
+ends_expression (toks.Mark m.BraceOpen) = true
+ends_expression _ = false
+
+-- whether the first of these tokens is an expression by itself
+abbrev pub stands_alone : List Tok → Bool
+stands_alone (operand ∷ behind ∷ rest) = is_leaf operand && ends_expression behind
+stands_alone _ = false
 
 -- an operand of a level, where so many levels may be opened
 abbrev pub operand : ℕ → Level → Parser Expression

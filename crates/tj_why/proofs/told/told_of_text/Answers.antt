@@ -1,4 +1,4 @@
-use Rattle.std.proofs.Common.{subst, sym, ◌∙◌}
+use Rattle.std.proofs.Common.{[], refl, subst, sym, ◌∙◌}
 use Rattle.tj_syntax.proofs.ScriptTexts.{grammar_first, token_first}
 use Rattle.tj_syntax.specs.declared.script_text.NoScript.TheVariants.{Grammar, Tokens}
 use Rattle.tj_lex.specs.Tokens.{AreTokens}
@@ -8,8 +8,8 @@ use Rattle.tj_why.proofs.ToldInputs.{fault_told, script_told}
 use Rattle.tj_why.proofs.told.told_of_text.Goals as goal
 
 pub returns-in-Err : goal.returns-in-Err
-returns-in-Err c = fault_told c.args.command c.args.text.now (Tokens c.in-Err.fault) c.told_fault.result
-    c.requires.short (token_first c.args.text.now c.in-Err.fault c.requires.short c.in-Err.ensures.fault)
+returns-in-Err c = fault_told c.args.command c.args.text.now [] (Tokens c.in-Err.fault) c.told_fault.result
+    c.requires.short refl (token_first c.args.text.now c.in-Err.fault c.requires.short c.in-Err.ensures.fault)
     (c.told_fault.ensures.status, c.told_fault.ensures.text, c.told_fault.ensures.none)
 
 pub returns-in-Ok-parse : goal.returns-in-Ok-parse
@@ -24,9 +24,10 @@ returns-in-Ok-parse c =
 pub returns : goal.returns
 returns c =
     let has = subst (AreTokens c.args.text.now) (sym c.as_slice.ensures.value) c.in-Ok.ensures.ok in
-    fault_told c.args.command c.args.text.now (Grammar c.in-Err-parse.fault) c.told_fault-in-Err-parse.result
-    c.requires.short (grammar_first c.args.text.now c.as_slice.result.now c.in-Err-parse.fault c.requires.short has
-    c.in-Err-parse.ensures.fault) (
+    let told = subst (AreTokens c.args.text.now) (sym c.as_slice-in-Err-parse.ensures.value) c.in-Ok.ensures.ok in
+    fault_told c.args.command c.args.text.now c.as_slice-in-Err-parse.result.now (Grammar c.in-Err-parse.fault)
+    c.told_fault-in-Err-parse.result c.requires.short told (grammar_first c.args.text.now c.as_slice.result.now
+    c.in-Err-parse.fault c.requires.short has c.in-Err-parse.ensures.fault) (
       c.told_fault-in-Err-parse.ensures.status,
       c.told_fault-in-Err-parse.ensures.text,
       c.told_fault-in-Err-parse.ensures.none,

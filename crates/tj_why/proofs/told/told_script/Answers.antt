@@ -31,7 +31,8 @@ returns-in-Err-Full c =
     c.in_ok-main_body.ensures.main c.in_ok-root.ensures.main.0 in (
       root,
       c.in_ok-root.ensures.main,
-      full_told c.args.command (view.script c.args.script.now) c.args.tokens.now root c.in_ok-main_body.field-0 Full
-          c.in_ok-full_line-in-Err-Full.field-0.items same (c.in-Err-Full.ensures.full c.in-Err-Full.field-0-is) refl
-          c.in_ok-full_line-in-Err-Full.ensures,
+      full_told c.args.command c.args.text.now (view.script c.args.script.now) c.args.tokens.now root
+          c.in_ok-main_body.field-0 Full
+          c.in_ok-full_told-in-Err-Full.field-0.items same (c.in-Err-Full.ensures.full c.in-Err-Full.field-0-is) refl
+          c.in_ok-full_told-in-Err-Full.ensures,
     )

@@ -20,7 +20,8 @@ returns c =
     let limits = c.args.command.limits in
     let traced = subst (AreTraced (logged_program limits.strict c.args.root.now) limits.cells) (sym c.items.ensures)
     c.in-Ok.ensures.traced in
-    ended_told c.args.command (view.script c.args.script.now) c.args.tokens.now c.args.root.now c.args.outcome.now
+    ended_told c.args.command c.args.text.now (view.script c.args.script.now) c.args.tokens.now c.args.root.now
+    c.args.outcome.now
     c.items.result.now (places.view c.in_ok-places.places) c.status_of.result c.in_ok-why_text.field-0.items
     c.requires.fits c.requires.outcome traced c.in_ok-places.ensures
     (c.status_of.ensures ∙ ap status_of c.marked.ensures) c.in_ok-why_text.ensures

@@ -1,14 +1,20 @@
 -- The loop over the pairs reads what is left, and a unary is read by its first token.
-use Rattle.std.proofs.Common.{rules, arith, map}
+use Rattle.std.proofs.Common.{◌∙◌, sym, refl, rules, arith, map}
 use Rattle.std.proofs.lemmas.Grind.{common_steps}
 use Rattle.std.proofs.lemmas.List.{map-append}
 use Rattle.tj_syntax.specs.declared.expr.Expr.{the_lemmas}
 use Rattle.tj_syntax.specs.Inner.State.{input_of}
 use Rattle.tj_syntax.specs.View.{pair}
 use Rattle.tj_syntax.specs.Inner.Reading.{pairs, pairs_from, operand}
+use Rattle.tj_syntax.proofs.Alone.{alone}
 use Rattle.tj_syntax.proofs.Repeats.{one_more, no_more}
 use Rattle.tj_syntax.proofs.Unrolls.{unary-is}
 use Rattle.tj_syntax.proofs.parser.Parser.+expression.Goals as goal
+
+pub expression-returns-then-stands_alone : goal.expression-returns-then-stands_alone
+expression-returns-then-stands_alone t c =
+    let yes = sym c.stands_alone.ensures ∙ c.if-stands_alone.true in
+    rw (alone c.args.room (input_of c.args.self.now) (input_of c.args.self.now).ahead refl yes) c.unary.ensures
 
 pub pairs-loop-repeat-init : goal.pairs-loop-repeat-init
 unfolding pairs
