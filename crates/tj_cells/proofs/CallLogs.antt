@@ -1,6 +1,5 @@
 -- The steps of calls in the log of a seat, one call after the other.
-use Rattle.std.proofs.Common.{◌≡◌, ℕ, suc, ◌+◌, List, [], ◌∷◌, ◌++◌, refl, sym, ap, subst, ◌∙◌, arith}
-use Rattle.std.proofs.Common.{append_assoc, length-append}
+use Rattle.std.proofs.Common.{◌≡◌, ℕ, suc, ◌+◌, List, [], ◌∷◌, ◌++◌, sym, ap, subst, ◌∙◌, append_assoc}
 use Rattle.tj_base.specs.declared.cell.Sort.{Sort}
 use Rattle.tj_log.specs.declared.entry.Entry.{Entry}
 use Rattle.tj_tree.specs.declared.node.Node.{Node}
@@ -8,17 +7,7 @@ use Rattle.tj_words.proofs.SeatLoads.KnowsMoreOn.{tail_on}
 use Rattle.tj_words.specs.CallLaws.StepCalls as call
 use Rattle.tj_words.specs.CallLaws.StepLogs.{IsLookLogged, entry_of}
 use Rattle.tj_words.specs.declared.offsets.Once.TheVariants as once
-use Rattle.tj_cells.specs.CallLogs.{AreLoads, Grows, Makes, MakesNode, OnlyLoad, Seat, draw_entry, drawn_entries}
-use Rattle.tj_cells.specs.CallLogs.{once_entry}
-
-only_on : (xs ys : List Entry) → OnlyLoad xs → OnlyLoad ys → OnlyLoad (xs ++ ys)
-only_on [] ys h k = k
-only_on (x ∷ xs) ys h k = (h.0, only_on xs ys h.1 k)
-
--- loads and then others are as many as both
-pub loads_on : (m n o : ℕ) (xs ys : List Entry) → m + n ≡ o → AreLoads m xs → AreLoads n ys → AreLoads o (xs ++ ys)
-loads_on m n o xs ys e h k =
-    let l = length-append xs ys in let a = h.0 in let b = k.0 in (omega arith, only_on xs ys h.1 k.1)
+use Rattle.tj_cells.specs.CallLogs.{Grows, LooksOn, Makes, MakesNode, Seat, draw_entry, drawn_entries, once_entry}
 
 module _ {B : Type 0} (u v : Seat B) where
   -- a seat that makes no step has made none
@@ -29,22 +18,11 @@ module _ {B : Type 0} (u v : Seat B) where
   pub grows_by : (es : List Entry) → Makes es u v → Grows u v
   grows_by es h = ((es, h.0), h.1)
 
-  -- a look at a node is four loads
-  pub look_loads : (t : ℕ) (node : Node) → IsLookLogged t node u v
-      → (looks : List Entry) × AreLoads 4 looks × Makes looks u v
-  look_loads t node h = (
-    entry_of (call.sees_once t once.Jump) 0 0 (suc node.jump.0)
-        ∷ entry_of (call.sees_once t once.Depth) 0 0 node.depth ∷ entry_of (call.sees_once t once.Kid) 0 0 node.kid
-        ∷ entry_of (call.sees_once t once.Parent) 0 0 h.0 ∷ [],
-    (
-      refl,
-      (
-        (t, suc node.jump.0, once.Jump, refl),
-        ((t, node.depth, once.Depth, refl), ((t, node.kid, once.Kid, refl), ((t, h.0, once.Parent, refl), tt))),
-      ),
-    ),
-    (h.2, h.3),
-  )
+  -- a look at a node
+  pub look_grows : (t : ℕ) (node : Node) → IsLookLogged t node u v → Grows u v
+  look_grows t node h = grows_by (entry_of (call.sees_once t once.Jump) 0 0 (suc node.jump.0)
+      ∷ entry_of (call.sees_once t once.Depth) 0 0 node.depth ∷ entry_of (call.sees_once t once.Kid) 0 0 node.kid
+      ∷ entry_of (call.sees_once t once.Parent) 0 0 h.0 ∷ []) (h.2, h.3)
 
   module _ (w : Seat B) where
     -- steps and then others
@@ -60,12 +38,6 @@ module _ {B : Type 0} (u v : Seat B) where
     makes_one es e h k = (k.0 ∙ ap (λ l. e ∷ l) h.0, k.1 ∙ h.1)
 
 module _ {B : Type 0} (u v w : Seat B) where
-  -- loads and then others are loads
-  pub more_loads : (m n o : ℕ) → n + m ≡ o → (xs : List Entry) × AreLoads m xs × Makes xs u v
-      → (ys : List Entry) × AreLoads n ys × Makes ys v w → (zs : List Entry) × AreLoads o zs × Makes zs u w
-  more_loads m n o e h k =
-      (k.0 ++ h.0, loads_on n m o k.0 h.0 e k.1 h.1, makes_on u v w h.0 k.0 h.2 k.2)
-
   -- a cell was drawn, and PARENT and KID were stored
   pub drawn_made : (x : Seat B) (t kid : ℕ) (o : Sort) (c link : ℕ) → Makes (draw_entry t o c ∷ []) u v
       → Makes (once_entry c once.Parent link ∷ []) v w → link ≡ suc t → Makes (once_entry c once.Kid kid ∷ []) w x
@@ -75,15 +47,23 @@ module _ {B : Type 0} (u v w : Seat B) where
       (makes_one u v w (draw_entry t o c ∷ []) (once_entry c once.Parent (suc t)) drawn
       (subst (λ n. Makes (once_entry c once.Parent n ∷ []) v w) is parent)) kid_put
 
-  -- words that are written once were loaded, and DEPTH and JUMP stored
-  pub node_made : (x : Seat B) (c depth jump : ℕ) → (looks : List Entry) × AreLoads 12 looks × Makes looks u v
-      → Makes (once_entry c once.Depth depth ∷ []) v w → Makes (once_entry c once.Jump jump ∷ []) w x
-      → MakesNode c u x
-  node_made x c depth jump looks d j = (
-    depth,
+  -- nodes were looked at, and DEPTH and JUMP stored
+  pub node_made : (x y : Seat B) (t c jump : ℕ) (maker : Node) → IsLookLogged t maker u v
+      → LooksOn maker.jump.0 v w → Makes (once_entry c once.Depth (maker.depth + 1) ∷ []) w x
+      → Makes (once_entry c once.Jump jump ∷ []) x y → MakesNode t c u y
+  node_made x y t c jump maker h k d j = (
+    maker,
     jump,
-    looks.0,
-    looks.1,
-    makes_one u w x (once_entry c once.Depth depth ∷ looks.0) (once_entry c once.Jump jump)
-        (makes_one u v w looks.0 (once_entry c once.Depth depth) looks.2 d) j,
+    v,
+    w,
+    h,
+    k,
+    makes_one w x y (once_entry c once.Depth (maker.depth + 1) ∷ []) (once_entry c once.Jump jump) d j,
   )
+
+-- a node that was made makes the log longer
+pub node_grows : {B : Type 0} (u v : Seat B) (t c : ℕ) → MakesNode t c u v → Grows u v
+node_grows u v t c h = grows_on u h.2 v (look_grows u h.2 t h.0 h.4)
+    (grows_on h.2 h.5.2 v (look_grows h.2 h.5.2 h.0.jump.0 h.5.0 h.5.3)
+    (grows_on h.5.2 h.3 v (look_grows h.5.2 h.3 h.5.0.jump.0 h.5.1 h.5.4)
+    (grows_by h.3 v (once_entry c once.Jump h.1 ∷ once_entry c once.Depth (h.0.depth + 1) ∷ []) h.6)))

@@ -2,7 +2,9 @@
 use Rattle.tj_cells.proofs.Prelude.{Begins, Entry, IsIn, IsMade, KnowsMore, List, Reference, Sort, View, [], became}
 use Rattle.tj_cells.proofs.Prelude.{begins_self, inr, refl, saw_value, subst, sym, ℕ, ◌∷◌}
 use Rattle.tj_body.proofs.Lists.{in_right}
+use Rattle.tj_words.proofs.SeatLoads.KnowsMoreOn.{more_on}
 use Rattle.tj_words.specs.SeatViews.KnowsMore.{HasSameWakes, HasSameHand, HasSameCounts}
+use Rattle.tj_words.specs.SeatViews.Views.{saw_entry}
 use Rattle.tj_words.specs.declared.view.Filled.{Filled}
 use Rattle.tj_cells.proofs.SameViews.{more_in_front}
 
@@ -40,5 +42,6 @@ module _ {B : Type 0} where
   -- a value was read
   pub value_more : (p : ℕ) (e : Entry) (named : List ℕ) (born : List Reference) (v : View B) → Begins v.born born
       → KnowsMore v (saw_value p e named born v)
-  value_more p e named born v b =
-      more_in_front v (saw_value p e named born v) named [] (record { cell = p; entry = e } ∷ []) [] [] b ([], refl)
+  value_more p e named born v b = let u = saw_entry p e born v in more_on v u (saw_value p e named born v)
+      (more_in_front v u (p ∷ []) [] (record { cell = p; entry = e } ∷ []) [] [] b ([], refl))
+      (more_in_front u (saw_value p e named born v) named [] [] [] [] (begins_self born) ([], refl))

@@ -1,11 +1,12 @@
 -- What a call of several steps leaves in the log of its seat: these steps, the last of them first.
-use Rattle.std.specs.Prelude.{◌≡◌, ℕ, suc, ◌≤◌, List, [], ◌∷◌, ◌++◌, length, Option, Some, None}
+use Rattle.std.specs.Prelude.{◌≡◌, ℕ, suc, ◌+◌, ◌≤◌, List, [], ◌∷◌, ◌++◌, Option, Some, None}
 use Rattle.tj_base.specs.declared.cell.Sort.{Sort}
 use Rattle.tj_base.specs.declared.cell.Sort.TheVariants as sort
 use Rattle.tj_log.specs.Shown.{SeatShown}
 use Rattle.tj_log.specs.declared.entry.Entry.{Entry}
+use Rattle.tj_tree.specs.declared.node.Node.{Node}
 use Rattle.tj_words.specs.CallLaws.StepCalls as call
-use Rattle.tj_words.specs.CallLaws.StepLogs.{entry_of}
+use Rattle.tj_words.specs.CallLaws.StepLogs.{IsLookLogged, entry_of}
 use Rattle.tj_words.specs.SeatViews.KnowsMore.{IsTailOf}
 use Rattle.tj_words.specs.Words.Owners.{owner_word}
 use Rattle.tj_words.specs.Words.Phases.{phase_word}
@@ -38,19 +39,6 @@ owner_entry c o = entry_of (call.puts_owner c) (owner_word o) 0 (owner_word o)
 abbrev pub phase_entry : ℕ → Phase → Entry
 phase_entry c p = entry_of (call.puts_phase c) (phase_word p) 0 (phase_word p)
 
--- a load of a word that is written once
-abbrev pub IsOnceLoad : Entry → Type 0
-IsOnceLoad e = (c n : ℕ) × (f : Once) × (e ≡ entry_of (call.sees_once c f) 0 0 n)
-
--- each of these steps is one
-abbrev pub OnlyLoad : List Entry → Type 0
-OnlyLoad [] = Unit {0}
-OnlyLoad (e ∷ es) = IsOnceLoad e × OnlyLoad es
-
--- these steps are so many loads of words that are written once
-abbrev pub AreLoads : ℕ → List Entry → Type 0
-AreLoads n es = (length es ≡ n) × OnlyLoad es
-
 -- the draw of cell c for task t, and the stores of PARENT and KID
 abbrev pub drawn_entries : ℕ → ℕ → Sort → ℕ → List Entry
 drawn_entries t kid o c = once_entry c once.Kid kid ∷ once_entry c once.Parent (suc t) ∷ draw_entry t o c ∷ []
@@ -73,16 +61,23 @@ module _ {B : Type 0} where
   MakesPromise t kid c old new = Makes (owner_entry c (Some t) ∷ phase_entry c phase.Promise
       ∷ drawn_entries t kid sort.Promise c) old new
 
-  -- DEPTH and JUMP of a cell were stored, after twelve loads of words that are written once
-  abbrev pub MakesNode : ℕ → Seat B → Seat B → Type 0
-  MakesNode c old new = (depth jump : ℕ) × (looks : List Entry) × AreLoads 12 looks
-      × Makes (once_entry c once.Jump jump ∷ once_entry c once.Depth depth ∷ looks) old new
+  -- the node of one task was looked at, and then that of the task where the first one jumps
+  abbrev pub LooksOn : ℕ → Seat B → Seat B → Type 0
+  LooksOn first old new = (near far : Node) × (between : Seat B) × IsLookLogged first near old between
+      × IsLookLogged near.jump.0 far between new
 
-  -- a child was made: a cell was drawn, PARENT and KID were stored, words that are written once were loaded, and DEPTH,
-  -- JUMP and OWN were stored
+  -- the nodes of task t, of the task where t jumps, and of the one where that jumps were looked at, by four loads each;
+  -- then DEPTH of c was stored, as one more than that of t, and JUMP of c
+  abbrev pub MakesNode : ℕ → ℕ → Seat B → Seat B → Type 0
+  MakesNode t c old new = (maker : Node) × (jump : ℕ) × (looked read : Seat B) × IsLookLogged t maker old looked
+      × LooksOn maker.jump.0 looked read
+      × Makes (once_entry c once.Jump jump ∷ once_entry c once.Depth (maker.depth + 1) ∷ []) read new
+
+  -- a child was made: a cell was drawn, PARENT and KID were stored, the nodes of its maker and of two tasks above it
+  -- were looked at, and DEPTH, JUMP and OWN were stored
   abbrev pub MakesTask : ℕ → ℕ → ℕ → Seat B → Seat B → Type 0
   MakesTask t kid c old new = (drawn written : Seat B) × Makes (drawn_entries t kid sort.Task c) old drawn
-      × MakesNode c drawn written × Makes (owner_entry c (Some c) ∷ []) written new
+      × MakesNode t c drawn written × Makes (owner_entry c (Some c) ∷ []) written new
 
   -- a cell was closed: OWN was stored as nobody, and then BITS and TAG as what stands for this
   abbrev pub MakesClosed : ℕ → Option Fill → Seat B → Seat B → Type 0

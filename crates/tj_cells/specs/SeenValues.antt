@@ -43,13 +43,13 @@ cells_seen seen.Broken = []
 cells_seen seen.NotYet = []
 
 module _ {B : Type 0} where
-  -- the seat knows what has become of the cell, and the cell that this names
+  -- the seat knows the cell, what has become of it, and the cell that this names
   abbrev pub saw_value : ℕ → Entry → List ℕ → List Reference → View B → View B
   saw_value p e named born v = record v {
     steps = suc (suc v.steps);
     once_loads = suc (suc v.once_loads);
     born = born;
-    known = named ++ v.known;
+    known = named ++ (p ∷ v.known);
     filled = record { cell = p; entry = e } ∷ v.filled;
   }
 

@@ -1,16 +1,15 @@
 //! Promises and tasks that a running task makes. A draw gives a cell; its words of the tree are
 //! written while the seat has it in hand, and its owner last: from then on others may name it.
-ghost use Rattle.std.specs.Prelude.{◌≡◌, ◌≢◌, ◌+◌, List, [], ◌∷◌, IfOk, Some, None, OnErr};
+ghost use Rattle.std.specs.Prelude.{◌≡◌, ◌≢◌, ◌+◌, [], ◌∷◌, IfOk, Some, None, OnErr};
 ghost use Rattle.tj_base.specs.declared.cell.Sort.TheVariants as sorts;
 ghost use Rattle.tj_body.specs.Programs.{program_of};
-ghost use Rattle.tj_log.specs.declared.entry.Entry.{Entry};
 ghost use Rattle.tj_tree.specs.Nodes.{InEachTree};
 ghost use Rattle.tj_words.specs.Calls.DrawViews.{FindsNone, new_slots};
 ghost use Rattle.tj_words.specs.Calls.OwnerViews.{handed_promise};
 ghost use Rattle.tj_words.specs.SeatViews.SeatSteps.{IsCellOf, IsSameSeat, IsSeatOf};
 ghost use Rattle.tj_words.specs.SeatViews.TreeReads.{IsLater, KnowsTask, MayLook, TreeShown};
 ghost use Rattle.tj_cells.specs.CallLogs.{
-  AreLoads,
+  LooksOn,
   Makes,
   MakesNode,
   MakesPromise,
@@ -82,8 +81,10 @@ pub fn birth<B: Body>(laid: &Laid<B>, seat: &mut WSeat<B>, t: CellId, kid: u32) 
     // written.
     ensures full { OnErr result (FindsNone (program_of B.places B.awaits B.left B.asks B.then)
         seat.old.me.0 seat.new.me.0 × (seat.new.me.1 ≡ seat.old.me.1)) }
-    // The call is the draw, which found this cell, the stores of PARENT and KID, twelve loads of
-    // words that are written once, and the stores of DEPTH, JUMP and OWN.
+    // The call is the draw, which found this cell, the stores of PARENT and KID, the loads of JUMP,
+    // DEPTH, KID and PARENT of three tasks, and the stores of DEPTH, JUMP and OWN. The tasks are
+    // its maker, the one where that jumps, and the one where this jumps; DEPTH is stored as one
+    // more than that of its maker.
     ensures log_made { IfOk result (λ c. MakesTask t.0 kid c.0 seat.old seat.new) }
     // Where it is Full it is one step, a draw that found COUNT at the table's cells or above.
     ensures log_full { OnErr result (MakesRefusedDraw laid.now.cells t.0 sorts.Task seat.old
@@ -139,7 +140,7 @@ fn put_node<B: Body>(laid: &Laid<B>, seat: &mut WSeat<B>, t: CellId, c: CellId)
     requires hand { HasInHand t.0 c.0 seat.old.me.0 }
     ensures seat { IsSameSeat seat.old seat.new }
     ensures node { WritesNode laid.now.cells c.0 seat.old.me.0 seat.new.me.0 }
-    ensures log { MakesNode c.0 seat.old seat.new }
+    ensures log { MakesNode t.0 c.0 seat.old seat.new }
 {
     let maker = laid.see_node(seat, t);
     let jump = child_jump(laid, seat, t, maker);
@@ -155,7 +156,7 @@ fn child_jump<B: Body>(laid: &Laid<B>, seat: &mut WSeat<B>, t: CellId, node: Nod
     ensures jump { InEachTree (TreeShown seat.new) (λ forks. result.0 ≡ child_jump_of t.0 forks) }
     ensures loads { seat.new.me.0.once_loads ≡ seat.old.me.0.once_loads + 8 }
     ensures later { IsLater laid.now.cells seat.old seat.new }
-    ensures log { (looks : List Entry) × AreLoads 8 looks × Makes looks seat.old seat.new }
+    ensures log { LooksOn node.jump.0 seat.old seat.new }
 {
     let near = laid.see_node(seat, CellId(node.jump.0));
     let far = laid.see_node(seat, CellId(near.jump.0));

@@ -1,5 +1,5 @@
 -- What a call that blocks on a wait leaves in the log of its seat: which steps it made, and in which order.
-use Rattle.std.specs.Prelude.{◌≡◌, ◌⊎◌, ℕ, ◌*◌, ◌<◌, ◌≤◌, min, List, [], ◌∷◌, ◌++◌, length, Option}
+use Rattle.std.specs.Prelude.{◌≡◌, ◌≢◌, ◌⊎◌, ℕ, suc, ◌<◌, min, List, [], ◌∷◌, ◌++◌, Option, Some, None}
 use Rattle.tj_base.specs.declared.cell.CellId.{CellId}
 use Rattle.tj_events.specs.declared.walk.Way.{Way}
 use Rattle.tj_events.specs.declared.walk.Way.TheVariants.{Along, Other}
@@ -7,19 +7,25 @@ use Rattle.tj_log.specs.Shown.{SeatShown}
 use Rattle.tj_log.specs.declared.entry.Entry.{Entry}
 use Rattle.tj_words.specs.CallLaws.StepCalls as call
 use Rattle.tj_words.specs.CallLaws.StepLogs.{IsLogged, entry_of}
+use Rattle.tj_words.specs.declared.phase.Phase.{Phase}
 use Rattle.tj_words.specs.declared.phase.Phase.TheVariants.{Waiting}
 use Rattle.tj_words.specs.declared.phase.Walk.{Walk}
 use Rattle.tj_words.specs.declared.phase.Walk.TheVariants.{Walking, Alarmed}
 use Rattle.tj_words.specs.declared.record.Rec.{Rec}
 use Rattle.tj_words.specs.declared.view.View.{View}
-use Rattle.tj_words.specs.Words.Lists.{All}
+use Rattle.tj_words.specs.Steps.StepEvents.{wait_in}
+use Rattle.tj_words.specs.Words.Owners.{owner_word}
 use Rattle.tj_words.specs.Words.Phases.{phase_word}
 use Rattle.tj_detect.specs.declared.blocking.Verdict.{Verdict}
 use Rattle.tj_detect.specs.declared.blocking.Verdict.TheVariants.{Alarm, Walked, Skipped}
 
--- a load of OWN or of PHASE of some cell
-abbrev pub IsCellLoad : Entry → Type 0
-IsCellLoad e = (c n : ℕ) × ((e ≡ entry_of (call.sees_owner c) 0 0 n) ⊎ (e ≡ entry_of (call.sees_phase c) 0 0 n))
+-- the load of OWN of cell p, which named this owner, or nobody
+abbrev pub owner_seen : ℕ → Option ℕ → Entry
+owner_seen p o = entry_of (call.sees_owner p) 0 0 (owner_word o)
+
+-- the load of PHASE of task u, which was this
+abbrev pub phase_seen : ℕ → Phase → Entry
+phase_seen u was = entry_of (call.sees_phase u) 0 0 (phase_word was)
 
 -- the store by which t waits for q, with its walk like this
 abbrev pub wait_store : ℕ → CellId → Way → Walk → Entry
@@ -47,27 +53,43 @@ module _ {B : Type 0} where
   abbrev pub Makes : List Entry → Seat B → Seat B → Type 0
   Makes es old new = (new.log ≡ es ++ old.log) × (new.took ≡ old.took)
 
-  -- the seat has made so many loads of OWN and PHASE more at most, and no other step
-  pub record MakesLoads (most : ℕ) (old new : Seat B) : Type 0 where
-    pub loads : List Entry
-    pub few : length loads ≤ most
-    pub each : All IsCellLoad loads
-    pub makes : Makes loads old new
+  -- OWN of p named a task other than t, which waits for the cell next by its PHASE, and then OWN named it again
+  abbrev pub PassesOwner : ℕ → ℕ → ℕ → Seat B → Seat B → Type 0
+  PassesOwner t p next old new = (u : ℕ) × (was : Phase) × (u ≢ t) × (wait_in was ≡ Some next)
+      × Makes (owner_seen p (Some u) ∷ phase_seen u was ∷ owner_seen p (Some u) ∷ []) old new
 
-  -- COUNT was loaded, of which so many are cells, and then for so many owners as were passed at most three words each
-  pub record HasLoaded (cells bound passed : ℕ) (old now : Seat B) : Type 0 where
+  -- OWN of p named a task other than t that waits for nothing by its PHASE
+  abbrev pub EndsAtNoWait : ℕ → ℕ → Seat B → Seat B → Type 0
+  EndsAtNoWait t p old new = (u : ℕ) × (was : Phase) × (u ≢ t) × (wait_in was ≡ None)
+      × Makes (phase_seen u was ∷ owner_seen p (Some u) ∷ []) old new
+
+  -- OWN of p named a task other than t that waits for a cell by its PHASE, and then OWN named it no more
+  abbrev pub EndsAtChange : ℕ → ℕ → Seat B → Seat B → Type 0
+  EndsAtChange t p old new = (u next : ℕ) × (was : Phase) × (again : Option ℕ) × (u ≢ t) × (wait_in was ≡ Some next)
+      × (again ≢ Some u) × Makes (owner_seen p again ∷ phase_seen u was ∷ owner_seen p (Some u) ∷ []) old new
+
+  -- a walk ends at the cell p, without an alarm: OWN named nobody, or one of the two held
+  abbrev pub EndsAtOwner : ℕ → ℕ → Seat B → Seat B → Type 0
+  EndsAtOwner t p old new =
+      Makes (owner_seen p None ∷ []) old new ⊎ (EndsAtNoWait t p old new ⊎ EndsAtChange t p old new)
+
+  -- the loads of a walk of t from the cell p on, over so many owners at most: it passes as many, and ends there; or it
+  -- ends at an owner before, or finds t as one, which is an alarm
+  pub data MakesHops (t : ℕ) : ℕ → ℕ → Verdict → Seat B → Seat B → Type 0 where
+    passes_all : (p : ℕ) (old : Seat B) → MakesHops t 0 p Walked old old
+    ends_there : (left p : ℕ) (old new : Seat B) → EndsAtOwner t p old new → MakesHops t (suc left) p Walked old new
+    finds_own : (left p : ℕ) (old new : Seat B) → Makes (owner_seen p (Some t) ∷ []) old new
+        → MakesHops t (suc left) p Alarm old new
+    passes_one : (left p next : ℕ) (verdict : Verdict) (old between new : Seat B) → PassesOwner t p next old between
+        → MakesHops t left next verdict between new → MakesHops t (suc left) p verdict old new
+
+  -- the steps of a walk: COUNT is loaded, and as many owners are passed at most as it counts cells of the table
+  pub record MakesWalk (cells t : ℕ) (q : CellId) (way : Way) (verdict : Verdict) (old new : Seat B) : Type 0 where
     pub count : ℕ
     pub counted : Seat B
-    pub bound_is : bound ≡ min count cells
-    pub within : passed ≤ bound
-    pub loads_count : IsLogged call.counts 0 0 count old counted
-    pub loads : MakesLoads (3 * passed) counted now
-
-  -- the steps of a walk: its bound is a COUNT that it loaded first
-  pub record MakesWalk (cells t : ℕ) (q : CellId) (way : Way) (verdict : Verdict) (old new : Seat B) : Type 0 where
-    pub bound : ℕ
     pub walked : Seat B
-    pub loads : HasLoaded cells bound bound old walked
+    pub loads_count : IsLogged call.counts 0 0 count old counted
+    pub hops : MakesHops t (min count cells) q.0 verdict counted walked
     pub ends : Makes (last_steps verdict t q way) walked new
 
   -- the steps of a call that walks, after OTHERS was found as k; on a wait along the order that isn't 0

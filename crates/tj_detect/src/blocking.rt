@@ -14,10 +14,18 @@ ghost use Rattle.tj_words.specs.SeatViews.SeatSteps.{IsCellOf, IsSameSeat, IsSea
 ghost use Rattle.tj_words.specs.Steps.StepEvents.{wait_in};
 ghost use Rattle.tj_words.specs.Calls.WaitViews.{MayPutWait, PutsWait};
 ghost use Rattle.tj_words.specs.Calls.WalkViews.{IsWalking, MayLoadWait};
-ghost use Rattle.tj_detect.specs.BlockLogs.{LogsBlock, MakesLoads, MakesWalk};
+ghost use Rattle.tj_detect.specs.BlockLogs.{LogsBlock, MakesWalk};
 ghost use Rattle.tj_detect.specs.Blocks.{Blocks, HasReadNoOthers, InEachTable, MayBlock};
 ghost use Rattle.tj_detect.specs.Blocks.{OthersWatch, StandsOnCycle};
-ghost use Rattle.tj_detect.specs.Inner.WalkHops.{Comes, Hops, IsAtCount, Passes, WalksWith};
+ghost use Rattle.tj_detect.specs.Inner.WalkHops.{
+  Comes,
+  Hops,
+  IsAtCount,
+  MakesHop,
+  MakesSecondLook,
+  Passes,
+  WalksWith,
+};
 
 use std::sync::ledger::Ledger;
 use tj_base::{CellId, Steps};
@@ -82,9 +90,11 @@ pub fn block<B: Body, L: Ledger>(
     // The call is these steps, in this order, and no other. On a wait along the order the wait is
     // stored, and then OTHERS loaded; an other wait raises OTHERS, and is stored then. Skipped
     // comes with no step after OTHERS was loaded as 0. Else, which on a wait along the order comes
-    // only where OTHERS was loaded above 0, COUNT is loaded, then OWN and PHASE, at most three
-    // loads for each cell of the table that COUNT counts; and Alarm comes with the store of the
-    // alarm last.
+    // only where OTHERS was loaded above 0, COUNT is loaded, and then OWN of the present cell, which
+    // is q at first, PHASE of the owner and OWN again, so often at most as COUNT counts cells of
+    // the table. Where both loads of OWN name the same other task, the cell that it waits for by
+    // its PHASE is the present one from then on, and else nothing more is loaded. Alarm comes
+    // exactly where OWN names t, with the store of the alarm last.
     ensures log { LogsBlock laid.now.cells t.0 q way result seat.old seat.new }
 {
     settlers_are_not_alone();
@@ -197,7 +207,7 @@ impl<B: Body> Waiter<'_, B> {
             → WalksWith self.now.t.0 q way w seat.old.me.0
             → Hops self.now.laid.now.cells result self.now.t.0 q way w steps.old steps.new
             seat.old.me.0 seat.new.me.0 }
-        ensures log { MakesLoads 3 seat.old seat.new }
+        ensures log { MakesHop self.now.t.0 p.0 result seat.old seat.new }
     {
         let t = self.t;
         let first = self.laid.see_owner(seat, p, Some(t));
@@ -231,7 +241,7 @@ impl<B: Body> Waiter<'_, B> {
             → WalksWith self.now.t.0 q way w seat.old.me.0
             → Passes self.now.laid.now.cells result u.0 self.now.t.0 q way w steps.old steps.new
             seat.old.me.0 seat.new.me.0 }
-        ensures log { MakesLoads 2 seat.old seat.new }
+        ensures log { MakesSecondLook p.0 u.0 result seat.old seat.new }
     {
         let found = self.laid.see_phase(seat, u, Some(self.t));
         steps.tick();

@@ -9,6 +9,7 @@ ghost use Rattle.tj_mean.specs.declared.outcome.Outcome.{Outcome};
 ghost use Rattle.tj_mean.specs.Outcomes.{is_marked};
 ghost use Rattle.tj_syntax.specs.View as shown;
 ghost use Rattle.tj_report.specs.ClosedOutcomes.{AreCyclesOfOutcomeAlarmed};
+ghost use Rattle.tj_report.specs.NamedValues.{IsOfName};
 ghost use Rattle.tj_words.specs.AtRest.ClosedCells.{AreAtRest, AreCyclesAlarmed, AreAlarmsOnCycles};
 ghost use Rattle.tj_words.specs.AtRest.RestMeaning.{HaveWords};
 
@@ -17,10 +18,10 @@ use std::alloc::Global;
 use std::marker::Model;
 use std::sync::Wait;
 use std::thread::Threads;
-use tj_base::Oom;
+use tj_base::{Name, Oom};
 use tj_eval::{ScriptBody, main_body};
 use tj_mean::{Outcome, PlanFault, plan};
-use tj_report::{outcome_of, report_at_rest};
+use tj_report::{Became, outcome_of, report_at_rest, value_named};
 use tj_run::RunFault;
 use tj_syntax::Script;
 use tj_words::{Closed, RestWords};
@@ -112,6 +113,17 @@ impl<'s> ScriptRun<'s> {
             × (is ≡ is_marked outcome)) }
     {
         Ok(report_at_rest(alloc, &self.rest)?.marked)
+    }
+
+    /// What became of the cell with this name, a promise or the result of a task, and None where the
+    /// run has no such cell.
+    pub fn value(&self, alloc: Global, name: &Name) -> Result<Option<Became>, Oom>
+        // It is what the meaning of what the run began with has for the cell of that name, and None
+        // comes exactly where the meaning has no such cell.
+        ensures { IfOk result (IsOfName (script_program self.now.strict self.now.root)
+            self.now.limit name.now) }
+    {
+        value_named(alloc, &self.rest, name)
     }
 
     /// What the words of the table show of its cells, at rest: each cycle of waits has a member that

@@ -109,8 +109,8 @@ module _ {B : Type 0} where
 
         value : SeesValue program cells p s v w → IsIdle w
         value f = subst IsIdle (sym f.view) ((keeps_load v (saw_value p f.entry (cells_seen s) f.born v) f.begins
-            (λ x k. in_right x (cells_seen s) v.known k) (λ x k. inr k) (λ x k. k) (λ e. e) (λ e. e) ([], refl)).idle
-            i)
+            (λ x k. in_right x (cells_seen s) (p ∷ v.known) (inr k)) (λ x k. inr k) (λ x k. k) (λ e. e) (λ e. e)
+            ([], refl)).idle i)
 
         by : (z : Seen) → s ≡ z → IsIdle w
         by seen.NotYet e = nothing (none e)

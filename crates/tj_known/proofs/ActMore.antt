@@ -131,7 +131,6 @@ module _ (lines : List ActLine) where
       let same = ap (λ (ss : List Step). length ss) off.steps in
       record {
         steps = subst (λ ss. AreSteps lines l.acts ss) (sym off.steps) is.steps;
-        wide = off.wide ∙ is.wide;
         few = omega arith;
         unbegun = λ e. absurd (true≢false (sym (off.begun ∙ begun) ∙ e));
         knowledge = λ _ i u h. subst (λ n. (has_index y.knows.items i ≡ true) ↔ Knows lines l.name n u) (sym count)

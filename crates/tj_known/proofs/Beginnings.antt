@@ -1,8 +1,8 @@
 -- The tasks of which nothing is worked off.
-use Rattle.std.proofs.Common.{◌≡◌, ℕ, ◌<◌, ◌↔◌, ◌⊎◌, inl, inr, Bool, true, false, List, [], Some, length}
+use Rattle.std.proofs.Common.{◌≡◌, ℕ, ◌<◌, ◌↔◌, ◌⊎◌, inl, inr, Bool, true, List, [], Some, length}
 use Rattle.std.proofs.Common.{refl, sym, ap, ◌∙◌, subst, arith, true≢false}
 use Rattle.std.proofs.Common.{◌++◌, ◌∷◌, get_or}
-use Rattle.std.proofs.lemmas.List.{length-append, length-replicate}
+use Rattle.std.proofs.lemmas.List.{length-append}
 use Rattle.std.proofs.lemmas.Option.{slice_get_read}
 use native.Mathlib.Decide.{ℕ_discrete}
 use mathlib.Core.Logic.{dite}
@@ -19,7 +19,7 @@ use Rattle.tj_known.specs.Inner.Learners.{IsForked, IsLearner, IsNew, IsUnderWay
 use Rattle.tj_known.specs.Inner.Steps.{AreThere, HasName, IsThere}
 use Rattle.tj_known.specs.declared.learner.Learner.{Learner}
 use Rattle.tj_known.proofs.KnowledgeSteps.{at_root}
-use Rattle.tj_known.proofs.Rows.{get_earlier, get_last, index_none}
+use Rattle.tj_known.proofs.Rows.{get_earlier, get_last}
 use Rattle.tj_known.proofs.StepIndexes.{there_all}
 
 module _ (lines : List ActLine) (fit : AreActLines lines) where
@@ -38,11 +38,10 @@ module _ (lines : List ActLine) (fit : AreActLines lines) where
       let none = new_worked l x is in
       record {
         steps = is.steps;
-        wide = ap (λ (r : List Bool). length r) is.nothing ∙ length-replicate (length lines) false;
         few = omega arith;
         unbegun = λ _. is.unmarked;
         knowledge = λ begun i u h. (
-          λ has. absurd (true≢false (sym has ∙ (ap (λ r. has_index r i) is.nothing ∙ index_none (length lines) i))),
+          λ has. absurd (true≢false (sym has ∙ ap (λ r. has_index r i) is.nothing)),
           λ knew. absurd (root_knows l.name u (worked x) (is.begun.0 begun) none knew),
         );
         marked = λ n u answered less g. absurd (omega arith);

@@ -1,7 +1,9 @@
 -- The tasks after a fork: the parent knows the child, and the child begins with what the parent knew before.
 use Rattle.std.proofs.Common.{◌≡◌, ℕ, suc, ◌<◌, ◌↔◌, ◌⊎◌, inl, inr, Bool, true, false, List, []}
 use Rattle.std.proofs.Common.{Some, length, set, refl, sym, ap, ◌∙◌, subst, arith}
-use Rattle.std.proofs.Common.{length-set}
+use Rattle.std.proofs.Common.{length-set, ◌||◌, nat_eq}
+use Rattle.std.proofs.lemmas.Bool.{ne_eqb}
+use Rattle.std.proofs.lemmas.Bool.Decides.{Decides-eqb}
 use Rattle.std.specs.Prelude.{slice_get}
 use native.Mathlib.Decide.{ℕ_discrete}
 use mathlib.Core.Logic.{dite}
@@ -21,7 +23,7 @@ use Rattle.tj_known.specs.declared.step.Step.TheVariants as step
 use Rattle.tj_known.proofs.ActMore.{AtNext, learner_more, same_truth, worked_more}
 use Rattle.tj_known.proofs.Changes.{OthersStay, begun_still, child_differs, one_name}
 use Rattle.tj_known.proofs.KnowledgeSteps.{after_fork, at_begin, one_fork}
-use Rattle.tj_known.proofs.Rows.{get_other, get_put, index_other, index_put}
+use Rattle.tj_known.proofs.Rows.{get_other, get_put}
 
 -- the child of a step is the child of its act
 forked_by : (lines : List ActLine) (c : ℕ) (a : Act) → IsStep lines a (step.Fork c)
@@ -94,7 +96,8 @@ module _ (lines : List ActLine) (ls : List Learner) (fit : AreActLines lines) (u
 
     module _ (z2 y : Learner) (steps : z2.steps.items ≡ z.steps.items) (unmarked : z2.marks.items ≡ z.marks.items)
         (begins : z2.begun ≡ true) (inherits : z2.knows.items ≡ n.learner.knows.items)
-        (off : IsWorkedOff n.learner y false) (row : y.knows.items ≡ set n.learner.knows.items c true) where
+        (off : IsWorkedOff n.learner y false) (row : (k : ℕ)
+        → has_index y.knows.items k ≡ (nat_eq k c || has_index n.learner.knows.items k)) where
       abbrev after : List Learner
       after = set (set ls c z2) i y
 
@@ -146,14 +149,10 @@ module _ (lines : List ActLine) (ls : List Learner) (fit : AreActLines lines) (u
         known : (has_index n.learner.knows.items k ≡ true) ↔ Knows lines n.line.name (worked n.learner) u
         known = n.fits.knowledge n.begun k u h
 
-        wide : c < length n.learner.knows.items
-        wide = let a = n.fits.wide in let b = under.count in let d = less_c in omega arith
-
         the_child : k ≡ c → (has_index y.knows.items k ≡ true) ↔ Knows lines n.line.name (suc (worked n.learner)) u
         the_child e = (
           λ _. forked.1 (inr (one_name lines c u child_of.0 (subst (λ j. HasName lines j u) e h) child_of.1.named)),
-          λ _. ap (has_index y.knows.items) e
-              ∙ (ap (λ r. has_index r c) row ∙ index_put n.learner.knows.items c true wide),
+          λ _. row k ∙ ap (λ b. b || has_index n.learner.knows.items k) ((Decides-eqb k c).1 e),
         )
 
         differs : (k ≡ c → ⊥) → u ≡ child_of.0 → ⊥
@@ -168,7 +167,7 @@ module _ (lines : List ActLine) (ls : List Learner) (fit : AreActLines lines) (u
         other : (k ≡ c → ⊥)
             → (has_index y.knows.items k ≡ true) ↔ Knows lines n.line.name (suc (worked n.learner)) u
         other apart = same_truth (has_index y.knows.items k) (has_index n.learner.knows.items k)
-            (ap (λ r. has_index r k) row ∙ index_other n.learner.knows.items c k true apart)
+            (row k ∙ ap (λ b. b || has_index n.learner.knows.items k) (ne_eqb k c apart))
             (λ is. forked.1 (inl (known.0 is)), λ knows. known.1 (was apart (forked.0 knows)))
 
       -- the parent
@@ -189,7 +188,6 @@ module _ (lines : List ActLine) (ls : List Learner) (fit : AreActLines lines) (u
           let name_is : l.name ≡ child_of.0 = one_name lines c l.name child_of.0 (name_of l at) child_of.1.named in
           record {
             steps = subst (λ ss. AreSteps lines l.acts ss) (sym steps) is.steps;
-            wide = ap (λ (r : List Bool). length r) inherits ∙ n.fits.wide;
             few = omega arith;
             unbegun = λ _. none;
             knowledge = λ _ k u h. knows k u h l.name name_is (worked z2) zero_is;

@@ -12,3 +12,4 @@ pub mod Beginnings
 pub mod ActsLeft
 pub mod ToldJoins
 pub mod WorkSteps
+pub mod NamePrefixes

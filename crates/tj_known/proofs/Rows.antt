@@ -1,6 +1,6 @@
 -- Lists after one element was added or changed, and rows of truth values.
-use Rattle.std.proofs.Common.{◌≡◌, ℕ, zero, suc, ◌<◌, Bool, false, List, [], ◌∷◌, ◌++◌, Some, length, set}
-use Rattle.std.proofs.Common.{refl, ap, arith, replicate}
+use Rattle.std.proofs.Common.{◌≡◌, ℕ, zero, suc, ◌<◌, Bool, List, [], ◌∷◌, ◌++◌, Some, length, set}
+use Rattle.std.proofs.Common.{refl, ap, arith}
 use Rattle.std.specs.Prelude.{slice_get}
 use Rattle.tj_known.specs.Inner.Learners.{has_index}
 
@@ -40,23 +40,3 @@ pub mark_earlier : (row : List Bool) (b : Bool) (k : ℕ) → k < length row →
 mark_earlier [] b k less = absurd (omega arith)
 mark_earlier (x ∷ row) b zero less = refl
 mark_earlier (x ∷ row) b (suc k) less = mark_earlier row b k (omega arith)
-
--- an index that was added to a row
-pub index_put : (row : List Bool) (i : ℕ) (b : Bool) → i < length row → has_index (set row i b) i ≡ b
-index_put [] i b less = absurd (omega arith)
-index_put (x ∷ row) zero b less = refl
-index_put (x ∷ row) (suc i) b less = index_put row i b (omega arith)
-
--- the other indexes
-pub index_other : (row : List Bool) (i k : ℕ) (b : Bool) → (k ≡ i → ⊥) → has_index (set row i b) k ≡ has_index row k
-index_other [] i k b differs = refl
-index_other (x ∷ row) zero zero b differs = absurd (differs refl)
-index_other (x ∷ row) zero (suc k) b differs = refl
-index_other (x ∷ row) (suc i) zero b differs = refl
-index_other (x ∷ row) (suc i) (suc k) b differs = index_other row i k b (λ e. differs (ap suc e))
-
--- a row of nothing
-pub index_none : (n i : ℕ) → has_index (replicate n false) i ≡ false
-index_none zero i = refl
-index_none (suc n) zero = refl
-index_none (suc n) (suc i) = index_none n i

@@ -1,15 +1,15 @@
 -- The steps of the work, as the code takes them: what an act makes of all tasks, and what a sweep does.
 use Rattle.std.proofs.Common.{◌≡◌, ℕ, zero, suc, ◌+◌, ◌<◌, ◌≤◌, Bool, true, false, ◌&&◌, ◌||◌, List, [], ◌∷◌, Some}
-use Rattle.std.proofs.Common.{None}
+use Rattle.std.proofs.Common.{None, nat_eq}
 use Rattle.std.proofs.Common.{length, set, get_or, refl, sym, ap, ◌∙◌, subst, arith, true≢false, length-set}
-use Rattle.std.proofs.lemmas.Option.{get_or_from_slice_get, slice_get_read}
+use Rattle.std.proofs.lemmas.Option.{slice_get_read}
 use Rattle.std.specs.Prelude.{slice_get}
 use Rattle.std.specs.Option.{option_map_or}
 use native.Mathlib.Decide.{ℕ_discrete}
 use mathlib.Core.Logic.{dite}
 use Rattle.tj_mean.specs.ActLines.{AreActLines}
 use Rattle.tj_mean.specs.declared.act.ActLine.{ActLine}
-use Rattle.tj_mean.proofs.Lists.Elements.{get_less, get_there, some_is}
+use Rattle.tj_mean.proofs.Lists.Elements.{get_less, some_is}
 use Rattle.tj_mean.proofs.NotedActs.LineIndexes.{line_at}
 use Rattle.tj_known.specs.Inner.Learners.{AreDone, IsAdvanced, IsTried, IsSweep, IsUnderWay, IsWorkedOff}
 use Rattle.tj_known.specs.Inner.Learners.{NextAt, acts_left, can_go_on_at, has_index, is_done, knows_at}
@@ -64,22 +64,11 @@ module _ (lines : List ActLine) (ls : List Learner) (fit : AreActLines lines) (u
     is_next : (x : Learner) → x ≡ get_or ls i x → x ≡ the_next.learner
     is_next x at = some_is x the_next.learner (sym (read_at ls i x index_less at) ∙ the_next.there)
 
-    -- its row is as wide as there are tasks
-    wide : length the_next.learner.knows.items ≡ length ls
-    wide = the_next.fits.wide ∙ sym under.count
-
   module _ (c : ℕ) (next : NextAt ls i (step.Fork c)) where
     -- the child has an index
     pub child_less : c < length ls
     child_less =
         let z = child_there lines ls fit under i c (the_next (step.Fork c) next) in get_less ls c z.0 z.1
-
-    -- the parent's row has the child's index
-    pub child_within : (x : Learner) → x ≡ get_or ls i x → c < length x.knows.items
-    child_within x at =
-        let same = ap (λ (w : Learner). length w.knows.items) (is_next (step.Fork c) next x at) in
-        let many = wide (step.Fork c) next in
-        let less = child_less in omega arith
 
     -- the child isn't its parent
     apart : c ≡ i → ⊥
@@ -95,7 +84,8 @@ module _ (lines : List ActLine) (ls : List Learner) (fit : AreActLines lines) (u
     -- a fork is worked off
     pub forked : (x y z z2 : Learner) → x ≡ get_or ls i x → z ≡ get_or (set ls i y) c z
         → z2.steps.items ≡ z.steps.items → z2.marks.items ≡ z.marks.items → z2.begun ≡ true
-        → z2.knows.items ≡ x.knows.items → IsWorkedOff x y false → y.knows.items ≡ set x.knows.items c true
+        → z2.knows.items ≡ x.knows.items → IsWorkedOff x y false
+        → ((k : ℕ) → has_index y.knows.items k ≡ (nat_eq k c || has_index x.knows.items k))
         → IsTried lines i ls (set (set ls i y) c z2) true
     forked x y z z2 x_at z_at steps marks begins inherits off row =
         let n = the_next (step.Fork c) next in
@@ -108,7 +98,7 @@ module _ (lines : List ActLine) (ls : List Learner) (fit : AreActLines lines) (u
         subst (λ ms. IsTried lines i ls ms true) (set_swap ls i c y z2 differs) (record {
           under_way = after_fork_state lines ls fit under i c n z child_is z2 y steps marks begins
               (inherits ∙ ap (λ (w : Learner). w.knows.items) x_is) off2
-              (row ∙ ap (λ (w : Learner). set w.knows.items c true) x_is);
+              (λ k. row k ∙ ap (λ (w : Learner). nat_eq k c || has_index w.knows.items k) x_is);
           answer = sym (can_at ls i n.learner (Some (step.Fork c)) n.there
               (next_is ls i (step.Fork c) n.learner n.there next));
           fewer = λ _. one ∙ left;
@@ -124,23 +114,14 @@ module _ (lines : List ActLine) (ls : List Learner) (fit : AreActLines lines) (u
         let less = get_less lines j l.0 l.1 in
         let many = under.count in omega arith
 
-    -- and an index in the row
-    pub joined_within : (x : Learner) → x ≡ get_or ls i x → j < length x.knows.items
-    joined_within x at =
-        let same = ap (λ (w : Learner). length w.knows.items) (is_next (step.Join j answered) next x at) in
-        let many = wide (step.Join j answered) next in
-        let less = joined_less in omega arith
-
     -- what is known of it
     pub knows_read : (x : Learner) → x ≡ get_or ls i x → has_index x.knows.items j ≡ knows_at ls i j
     knows_read x at = sym (knows_of ls i j x (read_at ls i x (index_less (step.Join j answered) next) at))
 
     -- as the code reads it
-    pub knows_at_read : (x : Learner) (b : Bool) → x ≡ get_or ls i x → b ≡ get_or x.knows.items j b
+    pub knows_at_read : (x : Learner) (b : Bool) → x ≡ get_or ls i x → b ≡ has_index x.knows.items j
         → b ≡ knows_at ls i j
-    knows_at_read x b at is =
-        sym (get_or_from_slice_get x.knows.items j b false (read_at x.knows.items j b (joined_within x at) is))
-        ∙ knows_read x at
+    knows_at_read x b at is = is ∙ knows_read x at
 
     -- a join that tells nothing is worked off
     pub joined_plain : (x y : Learner) (known : Bool) → x ≡ get_or ls i x → known ≡ knows_at ls i j
@@ -179,17 +160,6 @@ module _ (lines : List ActLine) (ls : List Learner) (fit : AreActLines lines) (u
       fewer = λ e. absurd (true≢false (sym e));
       still = λ _. refl;
     }
-
-    -- what is told is as wide as the row
-    wide_told : (x z : Learner) → x ≡ get_or ls i x → z ≡ get_or ls j z
-        → length x.knows.items ≡ length z.knows.items
-    wide_told x z x_at z_at =
-        let same = ap (λ (w : Learner). length w.knows.items) (is_next (step.Join j true) next x x_at) in
-        let there = read_at ls j z (joined_less j true next) z_at in
-        let many = wide (step.Join j true) next in
-        let count = under.count in
-        let l = get_there lines j (let q = joined_less j true next in omega arith) in
-        let is = (under.each j l.0 z l.1 there).wide in omega arith
 
     -- a join of a known task that is done is worked off
     known_joined : (x y z : Learner) → x ≡ get_or ls i x → z ≡ get_or ls j z → knows_at ls i j ≡ true
@@ -230,11 +200,6 @@ module _ (lines : List ActLine) (ls : List Learner) (fit : AreActLines lines) (u
       -- where the joined task has acts left, nothing changes
       pub joined_waits : (z : Learner) → z ≡ get_or ls j z → is_done z ≡ false → IsTried lines i ls ls false
       joined_waits z at waits = waits_still j (answered_next answered both.1 next) z both.0 at waits
-
-      -- what is told is as wide as the row
-      pub told_wide : (x z : Learner) → x ≡ get_or ls i x → z ≡ get_or ls j z
-          → length x.knows.items ≡ length z.knows.items
-      told_wide x z x_at z_at = wide_told j (answered_next answered both.1 next) x z x_at z_at
 
       -- a join of a known task that is done is worked off
       pub joined_known : (x y z : Learner) → x ≡ get_or ls i x → z ≡ get_or ls j z → is_done z ≡ true
@@ -333,6 +298,12 @@ sweep_ends lines count old now moved sweep whole = record {
   fewer = sweep.fewer;
   stuck = λ e. stuck_all now (λ k less. sweep.stuck e k (omega arith));
 }
+
+-- a task that goes on leaves no more acts
+pub no_more : (lines : List ActLine) (i : ℕ) (old new : List Learner) (moved : Bool)
+    → IsAdvanced lines i old new moved → acts_left new ≤ acts_left old
+no_more lines i old new true on = let less = on.fewer refl in omega arith
+no_more lines i old new false on = let same = ap acts_left (on.still refl) in omega arith
 
 -- all sweeps leave as many tasks
 pub as_many : (lines : List ActLine) (ls ms : List Learner) → IsUnderWay lines ls → IsUnderWay lines ms

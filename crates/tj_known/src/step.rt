@@ -1,6 +1,6 @@
 //! Acts by indexes: a task goes by its index among the lines, so that what is known is a row of
 //! truth values.
-ghost use Rattle.std.specs.Prelude.{IfOk};
+ghost use Rattle.std.specs.Prelude.{IfOk, IsTrue};
 ghost use Rattle.tj_body.specs.Points.{IsIn};
 ghost use Rattle.tj_mean.specs.ActLines.{names_of};
 ghost use Rattle.tj_known.specs.Inner.Steps.{AreSteps, AreThere, HasName, IsStep, IsThere};
@@ -18,12 +18,40 @@ pub enum Step {
     Join(usize, bool),
 }
 
-/// The index of the task with this name.
-fn index_of(lines: &[ActLine], name: &Name) -> usize
+impl Step {
+    /// The index of the other task.
+    fn other(&self) -> usize {
+        match self {
+            Step::Fork(child) => *child,
+            Step::Join(joined, _) => *joined,
+        }
+    }
+}
+
+/// Whether the task with this index has this name.
+fn has_name(lines: &[ActLine], index: usize, name: &Name) -> bool
+    ensures { IsTrue result → HasName lines.now index name.now }
+{
+    match lines.get(index) {
+        Some(line) => line.name == *name,
+        None => false,
+    }
+}
+
+/// The index of the task with this name. It is looked for first at the index near which it may be,
+/// and behind that: a search compares long names more often.
+fn index_of(lines: &[ActLine], near: usize, name: &Name) -> usize
     requires in_order { Ascend (names_of lines.now) }
     requires there { IsIn name.now (names_of lines.now) }
     ensures { HasName lines.now result name.now }
 {
+    if has_name(lines, near, name) {
+        return near;
+    }
+    let next = near.saturating_add(1);
+    if has_name(lines, next, name) {
+        return next;
+    }
     match lines.binary_search_by(|line| name_cmp(&line.name, name)) {
         Ok(index) => index,
         Err(_) => unreachable!(),
@@ -31,26 +59,36 @@ fn index_of(lines: &[ActLine], name: &Name) -> usize
 }
 
 /// The act by indexes.
-fn step_of(lines: &[ActLine], act: &Act) -> Step
+fn step_of(lines: &[ActLine], near: usize, act: &Act) -> Step
     requires in_order { Ascend (names_of lines.now) }
     requires there { IsThere lines.now act.now }
     ensures { IsStep lines.now act.now result }
 {
     match act {
-        Act::Fork(child) => Step::Fork(index_of(lines, child)),
-        Act::Join(joined, answered) => Step::Join(index_of(lines, joined), *answered),
+        Act::Fork(child) => Step::Fork(index_of(lines, near, child)),
+        Act::Join(joined, answered) => Step::Join(index_of(lines, near, joined), *answered),
     }
 }
 
-/// The acts by indexes.
-pub fn steps_of(alloc: Global, lines: &[ActLine], acts: &[Act]) -> Result<Vec<Step>, Oom>
+/// The acts of the task with this index, by indexes.
+// A first child stands behind its maker, a leaf behind the one before it, and a join often comes
+// after its fork.
+pub fn steps_of(
+    alloc: Global,
+    lines: &[ActLine],
+    index: usize,
+    acts: &[Act],
+) -> Result<Vec<Step>, Oom>
     requires in_order { Ascend (names_of lines.now) }
     requires there { AreThere lines.now acts.now }
     ensures { IfOk result (λ steps. AreSteps lines.now acts.now steps.items) }
 {
     let mut steps = Vec::new(alloc);
+    let mut near = index;
     for act in acts {
-        steps.push(step_of(lines, act))?;
+        let step = step_of(lines, near, act);
+        near = step.other();
+        steps.push(step)?;
     }
     Ok(steps)
 }

@@ -1,8 +1,9 @@
 //! All acts are worked off in sweeps. In a sweep each task goes on as far as it can: it stops at an
 //! answered join of a task that it knows while that task has acts left, since it learns what that
 //! one knows after its last act. A join is answered only after the joined task ended; so while acts
-//! are left, some task can go on.
-ghost use Rattle.std.specs.Prelude.{◌≡◌, ◌<◌, ◌&&◌, length, IfOk, IsTrue, IsFalse};
+//! are left, some task can go on. Each second sweep goes back from the last task: forks begin tasks
+//! that stand behind the one that forks, and joins often wait for those.
+ghost use Rattle.std.specs.Prelude.{◌≡◌, ◌<◌, ◌≤◌, ◌&&◌, length, IfOk, IsTrue, IsFalse};
 ghost use Rattle.tj_mean.specs.ActLines.{AreActLines, names_of};
 ghost use Rattle.tj_mean.specs.Outcomes.{Ascend};
 ghost use Rattle.tj_known.specs.Inner.Learners as spec;
@@ -11,7 +12,7 @@ ghost use Rattle.tj_known.specs.Inner.Monitors.{HasTried, IsAtWork};
 ghost use Rattle.tj_known.specs.Inner.Steps.{AreThere};
 ghost use Rattle.tj_known.specs.declared.step.Step.TheVariants as step;
 
-use crate::learner::{Learner, nothing};
+use crate::learner::Learner;
 use crate::step::{Step, steps_of};
 use std::alloc::Global;
 use tj_base::Oom;
@@ -33,8 +34,8 @@ impl<'l> Monitor<'l> {
         ensures work { IfOk result IsAtWork }
     {
         let mut learners = Vec::new(alloc);
-        for line in lines {
-            learners.push(new_learner(alloc, lines, line)?)?;
+        for (index, line) in lines.iter().enumerate() {
+            learners.push(new_learner(alloc, lines, index, line)?)?;
         }
         Ok(Monitor {
             alloc,
@@ -50,7 +51,9 @@ impl<'l> Monitor<'l> {
             IsUnderWay self.old.lines.now self.new.learners.items) }
         ensures done { IfOk result (λ _. AreDone self.new.learners.items) }
     {
-        while self.sweep()? {}
+        while self.sweep()? {
+            self.sweep_back()?;
+        }
         Ok(())
     }
 
@@ -67,6 +70,23 @@ impl<'l> Monitor<'l> {
             moved = moved || went_on;
         }
         Ok(moved)
+    }
+
+    /// Each task goes on as far as it can, the last one first.
+    fn sweep_back(&mut self) -> Result<(), Oom>
+        requires work { IsAtWork self.old }
+        ensures lines { IfOk result (λ _. self.new.lines.now ≡ self.old.lines.now) }
+        ensures under_way { IfOk result (λ _.
+            IsUnderWay self.old.lines.now self.new.learners.items) }
+        ensures fewer { IfOk result (λ _.
+            spec.acts_left self.new.learners.items ≤ spec.acts_left self.old.learners.items) }
+    {
+        let mut left = self.learners.len();
+        while left > 0 {
+            left -= 1;
+            self.go_on(left)?;
+        }
+        Ok(())
     }
 
     /// The task with this index goes on as far as it can. False: it could not.
@@ -150,7 +170,7 @@ impl<'l> Monitor<'l> {
         requires next { spec.NextAt self.now.learners.items index (step.Join joined answered) }
         ensures { result ≡ spec.knows_at self.now.learners.items index joined }
     {
-        self.learners[index].knows[joined]
+        self.learners[index].has(joined)
     }
 
     /// The task joins one that it knew and that answers, and learns what that one knows after its
@@ -183,15 +203,20 @@ impl<'l> Monitor<'l> {
 }
 
 /// The task of a line, of which nothing is worked off.
-fn new_learner(alloc: Global, lines: &[ActLine], line: &ActLine) -> Result<Learner, Oom>
+fn new_learner(
+    alloc: Global,
+    lines: &[ActLine],
+    index: usize,
+    line: &ActLine,
+) -> Result<Learner, Oom>
     requires in_order { Ascend (names_of lines.now) }
     requires there { AreThere lines.now line.now.acts }
     ensures { IfOk result (IsNew lines.now line.now) }
 {
     Ok(Learner {
-        steps: steps_of(alloc, lines, line.acts.items())?,
+        steps: steps_of(alloc, lines, index, line.acts.items())?,
         begun: line.name.parts().is_empty(),
         marks: Vec::new(alloc),
-        knows: nothing(alloc, lines.len())?,
+        knows: Vec::new(alloc),
     })
 }

@@ -6,7 +6,7 @@ ghost use Rattle.tj_laws.specs.LoggedPhases.{LoggedPhasesStand, RecordsAreAsPut}
 pub fn logged_phases<B>()
     // Where the log of a seat has the store of Ended, Alarmed or Promise for a task, or a log that
     // it has taken in has it, PHASE of the task is this by what stands. So after `tj_park::finish`,
-    // by its `log_ended`, PHASE of the task is Ended wherever a seat has that log.
+    // by its `steps`, PHASE of the task is Ended wherever a seat has that log.
     ensures stand { LoggedPhasesStand B }
     // A step of the run that exchanged a phase of a task, which it found, for Running, as that of
     // `tj_park::claim` and of `park` that answers `Back`, took a record from the slot of the task:

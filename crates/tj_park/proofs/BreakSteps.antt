@@ -1,22 +1,19 @@
 -- A promise that a task owes is broken, and those who wait for it are woken.
 use Rattle.tj_park.proofs.Prelude.{AreApart, Bool, CellId, Custody, Entry, HasAlarmed, HasBroken, HasSeen, HasWoken}
 use Rattle.tj_park.proofs.Prelude.{IsIn, IsTailOf, IsToBecome, KnowsMore, List, MayBreak, MayGiveUp, MayWake, None}
-use Rattle.tj_park.proofs.Prelude.{Program, SlotsOf, Some, View, WakesAll, WakesEach, WillBecome, [], ap, arith, became}
+use Rattle.tj_park.proofs.Prelude.{Program, SlotsOf, Some, View, WillBecome, [], ap, arith, became}
 use Rattle.tj_park.proofs.Prelude.{begins_self, cell, cond, drop, eq-eqb, gave_up, get_or, held_in, held_task, inl, inr}
 use Rattle.tj_park.proofs.Prelude.{inside, length, let_go, more_in_front, more_itself, more_on, ne_eqb, noted_here}
-use Rattle.tj_park.proofs.Prelude.{numbers, one_some, refl, subst, sym, tail_on, take, without, without_due, ℕ, ⊎_elim}
+use Rattle.tj_park.proofs.Prelude.{numbers, one_some, refl, subst, sym, tail_on, without, without_due, ℕ, ⊎_elim}
 use Rattle.tj_park.proofs.Prelude.{◌+◌, ◌<◌, ◌∙◌, ◌∷◌, ◌≡◌, ◌≤◌, ◌⊎◌}
-use mathlib.Core.List.{map-append}
-use Rattle.std.proofs.lemmas.List.{drop_all, drop_more, take_all, take_more}
+use Rattle.std.proofs.lemmas.List.{drop_all, drop_more}
 use mathlib.Core.Logic.{dite}
 use native.Mathlib.Decide.{ℕ_discrete}
 use Rattle.tj_words.proofs.Holders.NotedEntries.{noted_else}
 use Rattle.tj_cells.proofs.TaskNotes.{let_go_again, let_go_first, noted_front}
 use Rattle.tj_park.specs.Inner.Breaks.{OwnsStill}
 use Rattle.tj_park.specs.Records.{AlarmsLeave, HasNoRecord}
-use Rattle.tj_cells.proofs.CallsKnowMore.{became_more}
-use Rattle.tj_park.proofs.WakeLoops.{noted_tail, nothing_noted, one_wake_more}
-use Rattle.tj_park.specs.Wakes.{HasNotedNothing}
+use Rattle.tj_park.proofs.WakeLoops.{noted_tail}
 use Rattle.tj_body.specs.declared.point.Entry.TheVariants as entry
 use Rattle.tj_words.specs.declared.offsets.Once.TheVariants as once
 use Rattle.tj_park.proofs.OwnedCells.{owner_still}
@@ -209,25 +206,3 @@ pub notes_kept : {B : Type 0} (p : ℕ) (woken left : List ℕ) (t : ℕ) (v v1 
 notes_kept {B} p woken left t v v1 v2 v3 e broke woke = tail_on v.notes v2.notes v3.notes
     (subst (λ (u : View B). IsTailOf v.notes u.notes) (sym broke) e)
     (noted_tail p woken left v2 v2.notes v3.notes woke.noted)
-
-module _ {B P : Type 0} (puts : P → CellId → P → Type 0) where
-  -- those who waited for one promise more were woken, once it was broken
-  pub one_break_woke : (t : ℕ) (ps : List CellId) (i n : ℕ) (v w before after : View B) (a b c : P)
-      → WakesEach puts (numbers (take i ps)) v w a b → i < length ps
-      → before ≡ became t (get_or ps i (cell 0)).0 entry.Broken w
-      → WakesAll puts (get_or ps i (cell 0)).0 n before after b c
-      → WakesEach puts (numbers (take (i + 1) ps)) v after a c
-  one_break_woke t ps i n v w before after a b c h few broke woke =
-      let p : ℕ = (get_or ps i (cell 0)).0 in
-      subst (λ l. WakesEach puts l v after a c)
-      (sym (ap numbers (take_more ps i (cell 0) few)
-      ∙ map-append (λ (d : CellId). d.0) (take i ps) (get_or ps i (cell 0) ∷ [])))
-      (one_wake_more puts (numbers (take i ps)) p n v w before after after a b c h
-      (subst (HasNotedNothing w) (sym broke) (record { knows = became_more t p entry.Broken w; notes = refl })) woke
-      (nothing_noted after))
-
-  -- all are broken
-  pub all_woke : (ps : List CellId) (i : ℕ) (v w : View B) (a b : P)
-      → WakesEach puts (numbers (take i ps)) v w a b → length ps ≤ i
-      → WakesEach puts (numbers ps) v w a b
-  all_woke ps i v w a b h most = subst (λ l. WakesEach puts (numbers l) v w a b) (take_all i ps most) h

@@ -17,3 +17,5 @@ pub mod Prelude
 pub mod EndRuns
 mod OwnedCells
 pub mod ParkLogs
+pub mod WakeLogs
+pub mod EndLogs

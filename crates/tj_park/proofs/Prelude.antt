@@ -30,7 +30,7 @@ pub use Rattle.tj_park.specs.Inner.Closings.{MayCloseResult, ended_record}
 pub use Rattle.tj_park.specs.Inner.JoinViews.{IsAdded, LooksOn, TakesBack, join_steps, push_behind}
 pub use Rattle.tj_park.specs.ParkViews.{HasFoundChains}
 pub use Rattle.tj_park.specs.Records.{HasNoRecord}
-pub use Rattle.tj_park.specs.Wakes.{HasWoken, MayWake, MayWakeTasks, WakesAll, WakesEach, wake_notes}
+pub use Rattle.tj_park.specs.Wakes.{HasWoken, MayWake, MayWakeTasks, WakesAll, wake_notes}
 pub use Rattle.tj_words.proofs.Holders.HeldChanges.{held_task}
 pub use Rattle.tj_words.proofs.Holders.HeldTasks.{none_some, one_some}
 pub use Rattle.tj_words.proofs.Holders.NotedEntries.{noted_here}

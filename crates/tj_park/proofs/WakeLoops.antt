@@ -1,16 +1,19 @@
 -- The loop that wakes a chain: so many of its tasks are woken, and the others are the seat's rest.
 use Rattle.tj_park.proofs.Prelude.{CellId, Err, Head, IsTailOf, List, None, Ok, Option, Rest, SlotsOf}
 use Rattle.tj_park.proofs.Prelude.{Some, View, Way, [], ap, arith, cell, head_of, head_word, inl, inr, more_itself}
-use Rattle.tj_park.proofs.Prelude.{more_on, refl, subst, suc, sym, tail_on, without, ℕ, ⊎_elim, ◌++◌, ◌+◌, ◌<◌, ◌∙◌}
+use Rattle.tj_park.proofs.Prelude.{refl, subst, suc, sym, tail_on, without, ℕ, ⊎_elim, ◌++◌, ◌+◌, ◌<◌, ◌∙◌}
 use Rattle.tj_park.proofs.Prelude.{◌∷◌, ◌≡◌, ◌≢◌, ◌≤◌, ◌⊎◌}
 use Rattle.std.proofs.Common.{length, Result, OnErr, append_assoc, length-append}
 use Rattle.tj_words.specs.declared.head.Head.TheVariants.{Empty, Task, Shut}
 use Rattle.tj_words.specs.declared.view.Note.{Note}
 use Rattle.tj_words.specs.Calls.ChainSteps.{TakesChain, found_taken, rest_of}
 use Rattle.tj_words.proofs.Waiters.ChainsSaid.{shut_or}
-use Rattle.tj_park.specs.Wakes.{HasNotedNothing, HaveNoted, HavePut, HasWoken, MayWakeTasks, WakesAll, WakesEach}
-use Rattle.tj_park.specs.Wakes.{WakesSome, wake_notes}
-use Rattle.tj_park.specs.Inner.FirstWaiters.{WakesFirst}
+use Rattle.tj_cells.specs.CallLogs.{Makes, Seat}
+use Rattle.tj_park.proofs.WakeLogs.{wake_begins, wake_more}
+use Rattle.tj_park.specs.Inner.FirstWaiters.{StepsOfFirst, WakesFirst}
+use Rattle.tj_park.specs.WakeLogs.{IsHeadOf, MakesWake, head_shut}
+use Rattle.tj_park.specs.Wakes.{HasNotedNothing, HaveNoted, HavePut, HasWoken, MayWakeTasks, WakesAll, WakesSome}
+use Rattle.tj_park.specs.Wakes.{wake_notes}
 
 -- the head begins the list of those who are left, and names a cell; or it was shut, and nobody is
 abbrev pub Begins : ℕ → Head → List ℕ → Type 0
@@ -57,6 +60,16 @@ none_left cells first [] b n = refl
 none_left cells first (u ∷ us) b n = ⊎_elim
     (λ (h : (first ≡ head_of (u ∷ us)) × (head_word first ≤ cells)). absurd (n (cell u) h.0))
     (λ (h : (first ≡ Shut) × (u ∷ us ≡ [])). h.1) b
+
+-- a list without elements
+nobody : (l : List ℕ) → length l ≡ 0 → l ≡ []
+nobody [] e = refl
+nobody (x ∷ l) e = absurd (cc)
+
+head_begins : (cells : ℕ) (first : Head) (left : List ℕ) → Begins cells first left → IsHeadOf first left
+head_begins cells first left b = ⊎_elim
+    (λ (h : (first ≡ head_of left) × (head_word first ≤ cells)). inl h.0)
+    (λ (h : (first ≡ Shut) × (left ≡ [])). inr h) b
 
 rest_long : (p : ℕ) (ts : List ℕ) → rest_length (rest_of p ts) ≡ length ts
 rest_long p [] = refl
@@ -151,6 +164,12 @@ module _ {B P : Type 0} (puts : P → CellId → P → Type 0) (cells p : ℕ) w
         put = refl;
       }) (shut_or h)
 
+  -- nobody is woken yet by the steps so far
+  pub steps_at_first : (h : Head) (old now : Seat B) (a b : P) (k : Waking puts cells p h 0 old.me.0 now.me.0 a b)
+      → Makes (head_shut p h ∷ []) old now → MakesWake p k.front k.left old now
+  steps_at_first h old now a b k m = subst (λ l. MakesWake p l k.left old now) (sym (nobody k.front k.counted))
+      (wake_begins p h k.left old now (head_begins cells h k.left k.begins) m)
+
   module _ (first next : Head) (t : CellId) (woken : ℕ) (v w w' : View B) (a b : P)
       (k : Waking puts cells p first woken v w a b) (names : first ≡ Task t) (wakes : WakesFirst p t.0 next w w') where
     abbrev the_first : (ts : List ℕ) × (k.left ≡ t.0 ∷ ts) × (t.0 < cells)
@@ -194,7 +213,7 @@ module _ {B P : Type 0} (puts : P → CellId → P → Type 0) (cells p : ℕ) w
         let b : rest_length w.rest ≡ suc (length the_first.0) = ap rest_length rests in omega arith
 
     -- one more is woken, and put into the pool
-    pub waking_next : head_word next ≤ cells → (c : P) → puts b t c → Waking puts cells p next (woken + 1) v w' a c
+    abbrev waking_next : head_word next ≤ cells → (c : P) → puts b t c → Waking puts cells p next (woken + 1) v w' a c
     waking_next small c q = record {
       front = k.front ++ t.0 ∷ [];
       left = the_first.0;
@@ -205,26 +224,50 @@ module _ {B P : Type 0} (puts : P → CellId → P → Type 0) (cells p : ℕ) w
       put = put_more puts k.front a b c t k.put q;
     }
 
+  module _ (first next : Head) (t : CellId) (woken : ℕ) (old now new : Seat B) (a b : P)
+      (k : Waking puts cells p first woken old.me.0 now.me.0 a b) (names : first ≡ Task t)
+      (wakes : WakesFirst p t.0 next now.me.0 new.me.0) (steps : MakesWake p k.front k.left old now)
+      (ready : StepsOfFirst p t.0 now new) where
+    abbrev those : List ℕ
+    those = (the_first first next t woken old.me.0 now.me.0 new.me.0 a b k names wakes).0
+
+    steps_more : MakesWake p (k.front ++ t.0 ∷ []) those old new
+    steps_more =
+        let few = the_first first next t woken old.me.0 now.me.0 new.me.0 a b k names wakes in
+        wake_more p t.0 k.front those old now new (subst (λ l. MakesWake p k.front l old now) few.1 steps)
+        (ready those (rests first next t woken old.me.0 now.me.0 new.me.0 a b k names wakes))
+
+    -- so these are the steps so far
+    pub waking_then : head_word next ≤ cells → (c : P) → puts b t c
+        → (n : Waking puts cells p next (woken + 1) old.me.0 new.me.0 a c) × MakesWake p n.front n.left old new
+    waking_then small c q = (
+      waking_next first next t woken old.me.0 now.me.0 new.me.0 a b k names wakes small c q,
+      steps_more,
+    )
+
     -- one more is woken, and the pool has nothing of it
-    pub woke_some : (same : P → P → Type 0) (c : P) → same b c → WakesSome puts same p v w' a c
+    pub woke_some : (same : P → P → Type 0) (c : P) → same b c → WakesSome puts same p old new a c
     woke_some same c q = record {
       woken = k.front;
       next = t.0;
-      left = the_first.0;
+      left = those;
       between = b;
-      woke = woke_more;
+      woke = woke_more first next t woken old.me.0 now.me.0 new.me.0 a b k names wakes;
       put = k.put;
       refused = q;
+      steps = steps_more;
     }
 
   -- all are woken
-  pub woke_all : (first : Head) (woken : ℕ) (v w : View B) (a b : P) → Waking puts cells p first woken v w a b
-      → ((t : CellId) → first ≢ Task t) → WakesAll puts p woken v w a b
-  woke_all first woken v w a b k n = record {
+  pub woke_all : (first : Head) (woken : ℕ) (old now : Seat B) (a b : P)
+      (k : Waking puts cells p first woken old.me.0 now.me.0 a b) → MakesWake p k.front k.left old now
+      → ((t : CellId) → first ≢ Task t) → WakesAll puts p woken old now a b
+  woke_all first woken old now a b k steps n = let none = none_left cells first k.left k.begins n in record {
     chain = k.front;
     all = k.counted;
-    woke = subst (λ l. HasWoken p k.front l v w) (none_left cells first k.left k.begins n) k.woke;
+    woke = subst (λ l. HasWoken p k.front l old.me.0 now.me.0) none k.woke;
     put = k.put;
+    steps = subst (λ l. MakesWake p k.front l old now) none steps;
   }
 
 -- what a wake notes stands in front of what was noted
@@ -238,28 +281,3 @@ noted_tail p (t ∷ ts) left v old new h =
 -- a seat that has done nothing has noted nothing
 pub nothing_noted : {B : Type 0} (v : View B) → HasNotedNothing v v
 nothing_noted v = record { knows = more_itself v; notes = refl }
-
-module _ {B P : Type 0} (puts : P → CellId → P → Type 0) where
-  -- those who wait for one cell more were woken
-  pub one_wake_more : (ps : List ℕ) (p n : ℕ) (v w before after end : View B) (a b c : P)
-      → WakesEach puts ps v w a b → HasNotedNothing w before → WakesAll puts p n before after b c
-      → HasNotedNothing after end
-      → WakesEach puts (ps ++ p ∷ []) v end a c
-  one_wake_more [] p n v w before after end a b c h k x m = (
-    before,
-    after,
-    c,
-    n,
-    record { knows = more_on v w before h.0.knows k.knows; notes = k.notes ∙ h.0.notes },
-    subst (λ z. WakesAll puts p n before after z c) h.1 x,
-    (m, refl),
-  )
-  one_wake_more (q ∷ ps) p n v w before after end a b c h k x m = (
-    h.0,
-    h.1,
-    h.2,
-    h.3,
-    h.4,
-    h.5,
-    one_wake_more ps p n h.1 w before after end h.2 b c h.6 k x m,
-  )

@@ -5,6 +5,12 @@ use Rattle.tj_park.proofs.Prelude.{View, Way, [], ap, arith, backing_running, ba
 use Rattle.tj_park.proofs.Prelude.{head_word, inl, inr, live_raised, missed, parked_phase, raised_by_way, refl, rest_of}
 use Rattle.tj_park.proofs.Prelude.{subst, suc, sym, wake_notes, ℕ, ⊎_elim, ◌++◌, ◌+◌, ◌-◌, ◌<◌, ◌∙◌, ◌∷◌, ◌≡◌, ◌≢◌, ◌≤◌}
 use Rattle.std.specs.Bool.{⊤}
+use Rattle.tj_cells.specs.CallLogs.{Makes, Seat}
+use Rattle.tj_park.proofs.WakeLogs.{read_ready}
+use Rattle.tj_park.specs.ParkLogs.{MakesLowered, exchange_entry}
+use Rattle.tj_park.specs.WakeLogs.{MakesReady, next_seen, phase_seen}
+use Rattle.tj_words.specs.CallLaws.StepCalls as call
+use Rattle.tj_words.specs.CallLaws.StepLogs.{entry_of}
 use Rattle.tj_words.specs.Calls.ExchangeViews.{MaySwap, woke_first}
 use Rattle.tj_words.specs.Calls.LiveViews.{LaysChild, MayRaiseLive, raised_with}
 use Rattle.tj_words.specs.Calls.MetCells.{SeesPhase}
@@ -183,6 +189,18 @@ module _ {B : Type 0} where
     reads : m2 ≡ (read, me.1)
     reads = pair_is m2 read me.1
         (reads_first p t left me.0 m1.0 m2.0 next was rests view1 parked.0 parked.1 behind view2) (slots2 ∙ slots1)
+
+    -- the steps in the log
+    pub steps_of_first : (live : ℕ) (r : Result ⊤ Phase) (m3 m4 : SeatMe B) (u a b d e f : Seat B)
+        → Makes (next_seen t next ∷ []) u a → Makes (phase_seen t was ∷ []) a b
+        → Makes (entry_of call.raises_live 1 0 live ∷ []) b d
+        → OnOk r (Makes (exchange_entry t was phase.Ready ∷ []) d e)
+        → IfErr r (λ q. (was ≡ phase.Ready) × (q ≢ was) × (m4 ≡ (missed t q m3.0, m3.1)))
+        → MakesLowered was e f → MakesReady p t left u f
+    steps_of_first live r m3 m4 u a b d e f read saw up ok err lower =
+        read_ready p t left parked.0 live u a b d e f next was behind parked.1 read saw up
+        (exchanged t p parked.0 m3 m4 r ok (subst (λ k. IfErr r (λ q. (k ≡ phase.Ready) × (q ≢ k)
+        × (m4 ≡ (missed t q m3.0, m3.1)))) parked.1 err)) lower
 
     pub may_up : {program : Bool → B → Program B} → MayRaiseLive program m2
     may_up {program} = subst (λ m. MayRaiseLive program m) (sym reads) (may_raise p t left parked.0 me.0 me.1 may program)

@@ -5,3 +5,5 @@ pub mod Wakes
 pub mod Inner
 pub mod Endings
 pub mod ParkLogs
+pub mod WakeLogs
+pub mod EndLogs

@@ -1,6 +1,6 @@
 -- What a park leaves in the log of the seat: the store of Parked, the load of the head, each push with the store of
--- NEXT before it, and what follows the last of them. And what else the calls of this crate leave there.
-use Rattle.std.specs.Prelude.{◌≡◌, ◌≢◌, ℕ, Bool, true, false, List, [], ◌∷◌, ◌++◌}
+-- NEXT before it, and what follows the last of them.
+use Rattle.std.specs.Prelude.{◌≢◌, ℕ, Bool, true, false, List, [], ◌∷◌}
 use Rattle.tj_events.specs.declared.walk.Way.{Way}
 use Rattle.tj_events.specs.declared.walk.Way.TheVariants as way
 use Rattle.tj_log.specs.declared.entry.Entry.{Entry}
@@ -43,8 +43,8 @@ module _ {B : Type 0} where
   abbrev pub MakesPush : ℕ → ℕ → Head → Head → Seat B → Seat B → Type 0
   MakesPush t q asked found old new = Makes (push_entry t q asked found ∷ next_store t asked ∷ []) old new
 
-  -- from a moment at which the head of q was found to be this on: each push asked for the head that was found last; those
-  -- that failed found another one; the last one added t, or the head was found shut at last, and no push came then
+  -- from a moment at which the head of q was found to be this on: each push asked for the head that was found last;
+  -- those that failed found another one; the last one added t, or the head was found shut at last, and no push came then
   pub data MakesPushes (t q : ℕ) : Bool → Head → Seat B → Seat B → Type 0 where
     adds : (asked : Head) (old new : Seat B) → MakesPush t q asked asked old new → MakesPushes t q true asked old new
     finds_shut : (old : Seat B) → MakesPushes t q false head.Shut old old
@@ -80,8 +80,3 @@ module _ {B : Type 0} where
   MakesLowered phase.Ended old new = Makes [] old new
   MakesLowered phase.Promise old new = Makes [] old new
   MakesLowered (phase.Waiting c w walk) old new = (n : ℕ) × Makes (lowering w n) old new
-
-  -- PHASE of t was stored as this, and other steps were made before and after that
-  abbrev pub StoresPhase : ℕ → Phase → Seat B → Seat B → Type 0
-  StoresPhase t p old new = (after before : List Entry)
-      × (new.log ≡ after ++ (phase_entry t p ∷ (before ++ old.log))) × (new.took ≡ old.took)

@@ -72,8 +72,8 @@ module _ {B : Type 0} where
     pub tasks : w.tasks ≡ let_go t v.tasks
     pub closed : w.closed ≡ v.closed
 
-  -- the head of the chain was found shut, once, so something has become of q; the wait is cleared, and t runs again with
-  -- the seat
+  -- the head of the chain was found shut, once, so something has become of q; the wait is cleared, and t runs again
+  -- with the seat
   pub record GaveBack (program : Bool → B → Program B) (cells t q : ℕ) (r : Rec B) (v w : View B) : Type 0 where
     pub parked : HasParked cells v w
     pub tasks : w.tasks ≡ hold (custody_of r) (let_go t v.tasks)

@@ -14,7 +14,9 @@ use Rattle.tj_words.specs.Words.Phases.{phase_word}
 use Rattle.tj_words.specs.SeatViews.KnowsMore.{KnowsMore}
 use Rattle.tj_words.specs.SeatViews.SeatSteps.{SeatMe}
 use Rattle.tj_words.specs.SeatViews.Views.{note_of}
+use Rattle.tj_cells.specs.CallLogs.{Seat}
 use Rattle.tj_park.specs.Records.{AlarmsLeave, HasNoRecord}
+use Rattle.tj_park.specs.WakeLogs.{MakesWake}
 
 -- the tasks of a list joined a pool one after the other, each once
 abbrev pub HavePut : {P : Type 0} → (P → CellId → P → Type 0) → List ℕ → P → P → Type 0
@@ -68,27 +70,23 @@ module _ {B : Type 0} where
     pub notes : w.notes ≡ v.notes
 
   module _ {P : Type 0} (puts : P → CellId → P → Type 0) where
-    -- each of these n tasks was made ready and put into the pool, and nobody is left
-    pub record WakesAll (p n : ℕ) (v w : View B) (a b : P) : Type 0 where
+    -- each of these n tasks was made ready and put into the pool, and nobody is left; these are the steps that were
+    -- made
+    pub record WakesAll (p n : ℕ) (old new : Seat B) (a b : P) : Type 0 where
       pub chain : List ℕ
       pub all : length chain ≡ n
-      pub woke : HasWoken p chain [] v w
+      pub woke : HasWoken p chain [] old.me.0 new.me.0
       pub put : HavePut puts chain a b
-
-    -- for one of these cells after the other, all who waited for it were woken and put into the pool. What the seat did
-    -- besides left the pool alone, and nothing was noted by it: so each task of which a wake is noted was put
-    abbrev pub WakesEach : List ℕ → View B → View B → P → P → Type 0
-    WakesEach [] v w a b = HasNotedNothing v w × (b ≡ a)
-    WakesEach (p ∷ ps) v w a b = (before after : View B) × (between : P) × (n : ℕ)
-        × HasNotedNothing v before × WakesAll p n before after a between × WakesEach ps after w between b
+      pub steps : MakesWake p chain [] old new
 
     -- each of these tasks was made ready and put into the pool; one more was made ready, of which the pool has
-    -- nothing; the others are left
-    pub record WakesSome (same : P → P → Type 0) (p : ℕ) (v w : View B) (a b : P) : Type 0 where
+    -- nothing; the others are left; these are the steps that were made
+    pub record WakesSome (same : P → P → Type 0) (p : ℕ) (old new : Seat B) (a b : P) : Type 0 where
       pub woken : List ℕ
       pub next : ℕ
       pub left : List ℕ
       pub between : P
-      pub woke : HasWoken p (woken ++ next ∷ []) left v w
+      pub woke : HasWoken p (woken ++ next ∷ []) left old.me.0 new.me.0
       pub put : HavePut puts woken a between
       pub refused : same between b
+      pub steps : MakesWake p (woken ++ next ∷ []) left old new

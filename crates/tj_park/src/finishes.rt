@@ -1,18 +1,17 @@
 //! The end of a task. Each promise that it owes is broken, and those who wait for it are woken; then its
 //! result is set or broken. From then on the task has ended, and its record goes home for good. Those
 //! who wait for the result are woken last, by the token that the end of the task gives.
-ghost use Rattle.std.specs.Prelude.{◌≡◌, ◌≢◌, ◌≤◌, [], ◌∷◌, ◌++◌, drop, length, None, OnOk, Some};
+ghost use Rattle.std.specs.Prelude.{◌≡◌, ◌≤◌, [], ◌∷◌, drop, length, None, OnErr, OnOk, Some};
 ghost use Rattle.atomic_table.specs.Table.{rest};
 ghost use Rattle.tj_body.specs.Programs.{program_of};
 ghost use Rattle.tj_words.specs.SeatViews.KnowsMore.{IsTailOf};
 ghost use Rattle.tj_words.specs.SeatViews.SeatSteps.{IsCellOf, IsSameSeat, IsSeatOf};
-ghost use Rattle.tj_cells.specs.CallLogs.{Grows};
+ghost use Rattle.tj_cells.specs.CallLogs.{MakesClosed};
 ghost use Rattle.tj_park.specs.Inner.Breaks.{HasBroken, MayBreak};
 ghost use Rattle.tj_park.specs.Endings.{HasFinished, MayFinish, OwesAtHome};
-ghost use Rattle.tj_park.specs.Inner.Closings.{ClosesResult, MayCloseResult};
-ghost use Rattle.tj_park.specs.ParkLogs.{StoresPhase};
+ghost use Rattle.tj_park.specs.EndLogs.{BreaksEach, BreaksSome, EndsTask, FailsToEnd, closed_with};
+ghost use Rattle.tj_park.specs.Inner.Closings.{ClosesResult, MayCloseResult, StepsOfClose};
 ghost use Rattle.tj_park.specs.Records.{HasNoRecord};
-ghost use Rattle.tj_park.specs.Wakes.{WakesEach};
 ghost use Rattle.tj_words.specs.Words.Lists.{numbers};
 
 use crate::wakes::wake;
@@ -64,20 +63,21 @@ pub fn finish<B: Body, P: Pool, R: Wait>(
     // Its record went home: in each table under the law in which a seat has the view that `finish`
     // leaves, and in which PHASE of the task is Ended, or no seat holds it, PHASE is Ended, and a
     // record of the task lies at home that owns nothing, and owes the promises that were broken and
-    // no others. That PHASE is Ended wherever a seat has this log, `log_ended` and the law
+    // no others. That PHASE is Ended wherever a seat has this log, `steps` and the law
     // `tj_laws::logged_phases` say.
     ensures home { OnOk result (OwesAtHome (program_of B.places B.awaits B.left B.asks B.then) t.0
         (drop 1 rec.owned) seat.new.me.0) }
-    // For each promise that it owed, one after the other, and for its result at last, those who
-    // waited were woken as `wake` says, each once and into the pool; the pool had nothing else done
-    // to it, and the seat has noted nothing but what these wakes note. So each task of which the
-    // seat notes in this call that it was parked was put into the pool once.
-    ensures woke { OnOk result (WakesEach P.puts (numbers (drop 1 rec.owned) ++ t.0 ∷ [])
-        seat.old.me.0 seat.new.me.0 pool.old pool.new) }
-    // The log of the seat is longer by the steps of this call, after an error too.
-    ensures log { Grows seat.old seat.new }
-    // After `Ok` one of them has stored PHASE of the task as Ended.
-    ensures log_ended { OnOk result (StoresPhase t.0 Phase.Ended seat.old seat.new) }
+    // The steps of this call are: for each promise that it owed, in the order in which it owned
+    // them, the promise is broken, and those who waited for it are woken as `wake` says; then the
+    // result is closed as its record's finish says, PHASE of the task is stored as Ended, those who
+    // waited for the result are woken, and LIVE is lowered at last. So each of those who waited was
+    // put into the pool once; the pool had nothing else done to it, and the seat has noted nothing
+    // but what these wakes note.
+    ensures steps { OnOk result (EndsTask P.puts t.0 rec seat.old seat.new pool.old pool.new) }
+    // After an error they are the first of these steps, up to one by which a task became ready that
+    // the pool refused.
+    ensures memory { OnErr result (FailsToEnd P.puts P.same t.0 rec seat.old seat.new
+        pool.old pool.new) }
 {
     points_in_rounds::<B>();
     points_are_good::<B>();
@@ -116,9 +116,10 @@ fn break_promises<B: Body, P: Pool, R: Wait>(
     ensures notes { IsTailOf seat.old.me.0.notes seat.new.me.0.notes }
     ensures limit { P.limit pool.new ≡ P.limit pool.old }
     ensures broken { OnOk result (HasBroken t.0 promises.now [] seat.old.me.0 seat.new.me.0) }
-    ensures woke { OnOk result (WakesEach P.puts (numbers promises.now) seat.old.me.0
-        seat.new.me.0 pool.old pool.new) }
-    ensures log { Grows seat.old seat.new }
+    ensures breaks { OnOk result (BreaksEach P.puts (numbers promises.now) seat.old seat.new
+        pool.old pool.new) }
+    ensures memory { OnErr result (BreaksSome P.puts P.same (numbers promises.now) seat.old seat.new
+        pool.old pool.new) }
 {
     for p in promises {
         break_off(laid, seat, t, *p);
@@ -136,7 +137,7 @@ fn close_result<B: Body>(laid: &Laid<B>, seat: &mut WSeat<B>, t: CellId, finish:
         seat.old.me.0 }
     ensures seat { IsSameSeat seat.old seat.new }
     ensures view { ClosesResult t.0 finish seat.old.me.0 seat.new.me.0 }
-    ensures log { Grows seat.old seat.new }
+    ensures log { StepsOfClose t.0 finish seat.old seat.new }
 {
     if let Some(f) = finish {
         close_by(laid, seat, t, f);
@@ -151,7 +152,7 @@ fn close_by<B: Body>(laid: &Laid<B>, seat: &mut WSeat<B>, t: CellId, f: Finish)
         seat.old.me.0 }
     ensures seat { IsSameSeat seat.old seat.new }
     ensures view { ClosesResult t.0 (Some f) seat.old.me.0 seat.new.me.0 }
-    ensures log { Grows seat.old seat.new }
+    ensures log { MakesClosed t.0 (closed_with f) seat.old seat.new }
 {
     match f {
         Finish::Done(v) => fill(laid, seat, t, t, v),

@@ -47,17 +47,17 @@ pub fn park<B: Body>(
     // It is the same seat.
     ensures id { seat.new.id ≡ seat.old.id }
     // The task has left the seat, which has nothing to come and its counts as before; at most 2N +
-    // 6 steps. The seat has found no head shut and at most N chains since (N + 1, if its view names
-    // another N than the table's). A push that fails adds a chain to those found or a cell to those
-    // closed, and the one that was to come succeeds once: so there were at most N + 1 pushes.
+    // 6 steps. The seat has found no head shut and at most N chains since, N being the table's
+    // number of cells. Each push asks for the chain found last (`left_log`), so there were at most
+    // N of them.
     ensures left { IfLeft result (LeftTask laid.now.cells t.0 seat.old.me.0 seat.new.me.0) }
     // Its slot has left the seat too.
     ensures left_slot { IfLeft result (seat.new.me.1 ≡ rest seat.old.me.1) }
     // The task runs again with the seat, which knows that the chain of the cell is shut and what
     // has become of the cell; its counts are as before, and there were at most 2N + 6 steps. The
     // seat has found the head of this cell shut once, no other, and chains as with `left`: so at
-    // most N + 1 pushes failed. The record is the very one that the exchange took out of home,
-    // which the seat's view has in front now; no other was taken.
+    // most N pushes failed (`back_log`). The record is the very one that the exchange took out of
+    // home, which the seat's view has in front now; no other was taken.
     ensures back { IfBack result (λ r. GaveBack
         (program_of B.places B.awaits B.left B.asks B.then) laid.now.cells t.0 q.0 r
         seat.old.me.0 seat.new.me.0) }

@@ -4,10 +4,15 @@
 ghost use Rattle.std.specs.Prelude.{◌≡◌, ◌+◌, ◌≤◌, IfOk, OnErr};
 ghost use Rattle.tj_words.specs.SeatViews.SeatSteps.{IsSeatOf, IsCellOf, IsSameSeat};
 ghost use Rattle.tj_words.specs.Words.Heads.{head_word};
-ghost use Rattle.tj_cells.specs.CallLogs.{Grows};
 ghost use Rattle.tj_park.specs.ParkLogs.{MakesLowered};
 ghost use Rattle.tj_park.specs.Wakes.{MayWake, WakesAll, WakesSome};
-ghost use Rattle.tj_park.specs.Inner.FirstWaiters.{MayWakeFirst, WakesFirst, counted_in, lowered_for};
+ghost use Rattle.tj_park.specs.Inner.FirstWaiters.{
+  MayWakeFirst,
+  StepsOfFirst,
+  WakesFirst,
+  counted_in,
+  lowered_for,
+};
 
 use std::alloc::Global;
 use std::sync::Wait;
@@ -39,15 +44,14 @@ pub fn wake<B: Body, P: Pool, R: Wait>(
     // After `Ok` the chain that this call took is woken, each task of it once and put into the pool
     // in its order; the number is told, and nobody is left to the seat. Its view notes of each, in
     // this order, that NEXT named the one behind it, and that PHASE said that it was parked on this
-    // cell.
-    ensures woke { IfOk result (λ n. WakesAll P.puts p.0 n seat.old.me.0 seat.new.me.0
-        pool.old pool.new) }
+    // cell. The steps of this call are: the head is swapped for a shut one, which finds the chain;
+    // then for each task of it, in its order, NEXT and PHASE are loaded, LIVE is raised, PHASE
+    // exchanged for Ready, and OTHERS lowered if the wait was counted there.
+    ensures woke { IfOk result (λ n. WakesAll P.puts p.0 n seat.old seat.new pool.old pool.new) }
     // After an error some were woken and put, one more is ready and not in the pool, and the others
-    // are left to the seat; the notes are those of the woken ones.
-    ensures memory { OnErr result (WakesSome P.puts P.same p.0 seat.old.me.0 seat.new.me.0
+    // are left to the seat; the notes, and the steps, are those of the woken ones.
+    ensures memory { OnErr result (WakesSome P.puts P.same p.0 seat.old seat.new
         pool.old pool.new) }
-    // The log of the seat is longer by the steps of this call, after an error too.
-    ensures log { Grows seat.old seat.new }
 {
     let mut first = laid.shut(seat, p);
     let mut woken = 0;
@@ -67,7 +71,7 @@ fn wake_first<B: Body>(laid: &Laid<B>, seat: &mut WSeat<B>, p: CellId, t: CellId
     ensures seat { IsSameSeat seat.old seat.new }
     ensures small { head_word result ≤ laid.now.cells }
     ensures woke { WakesFirst p.0 t.0 result seat.old.me.0 seat.new.me.0 }
-    ensures log { Grows seat.old seat.new }
+    ensures log { StepsOfFirst p.0 t.0 seat.old seat.new }
 {
     let next = laid.next_of(seat, t);
     let was = laid.see_phase(seat, t, None);

@@ -1,5 +1,5 @@
 -- What a look at another's deque tells, by the order in which its worker takes.
-use Rattle.std.proofs.Common.{ℕ, ◌≡◌, ◌≤◌, List, [], ◌∷◌, length, Bool, true, false, refl, subst, sym, min, arith}
+use Rattle.std.proofs.Common.{ℕ, ◌≡◌, List, [], ◌∷◌, Bool, true, false, subst, sym, min, arith}
 use Rattle.tj_base.specs.declared.cell.CellId.{CellId}
 use Rattle.crossbeam_deque.specs.Tasks.{Finds, FindsFew}
 use Rattle.tj_ready.specs.Orders.{flavor_of, left_there}

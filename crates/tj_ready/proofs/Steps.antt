@@ -57,7 +57,7 @@ module _ {V : Type 0} (P : V → Type 0) where
       (one_changed xs back v w keeps (λ k d in'. all (suc k) d (omega arith)))
 
   -- what holds of each deque before a take from one of them holds of that one
-  one_of : (front back : List V) (v : V) → All P (front ++ v ∷ back) → P v
+  pub one_of : (front back : List V) (v : V) → All P (front ++ v ∷ back) → P v
   one_of [] back v all = all 0 v (omega arith)
   one_of (x ∷ xs) back v all = one_of xs back v (λ k d in'. all (suc k) d (omega arith))
 

@@ -2,7 +2,8 @@
 use Rattle.std.specs.Prelude.{◌≡◌, ◌⊎◌, List, [], ◌∷◌, ◌++◌, All}
 use Rattle.tj_base.specs.declared.cell.CellId.{CellId}
 
--- What an end knows of its own deque, the cells of its spare list, and what it knows of each other deque.
+-- What an end knows of its own deque as its worker, the cells of its spare list, and what it knows of each deque, its
+-- own too, as one that takes from it.
 pub record Known (V : Type 0) : Type 0 where
   pub own : V
   pub spare : List CellId
@@ -25,7 +26,7 @@ module _ {V : Type 0} (step : V → List CellId → V → Type 0) where
     pub spare : after.spare ≡ before.spare
     pub others : after.others ≡ before.others
 
-  -- the cell passed through the deque of another end
+  -- the cell left one of the deques by the end's seat there
   pub record StepsOther (before : Known V) (t : CellId) (after : Known V) : Type 0 where
     pub by : StepsOne before.others t after.others
     pub own : after.own ≡ before.own

@@ -3,6 +3,6 @@ pub mod Meetings
 pub mod Queues
 pub mod Rules
 pub mod Stealing
-pub mod Victims
+pub mod Seats
 pub mod Inner
 pub mod Orders

@@ -4,15 +4,15 @@ use Rattle.std.specs.declared.alloc.Global.{Global}
 use Rattle.atomic_blocks.specs.Lent.{RowsId}
 use Rattle.crossbeam_deque.specs.Handles.{worker_view, worker_deque, stealer_deque}
 use Rattle.tj_ready.specs.Ends.{Known}
-use Rattle.tj_ready.specs.Meetings.{AllMeet, Grows, Meets}
-use Rattle.tj_ready.specs.Victims.{known_in}
+use Rattle.tj_ready.specs.Meetings.{AllMeet}
+use Rattle.tj_ready.specs.Seats.{known_in}
 use Rattle.tj_ready.specs.declared.rule.PoolRule.{Ghosts}
 use Rattle.tj_ready.specs.declared.stealing.RuledStealPool.{RuledStealPool}
 
 module _ {V K : Type 0} {rule : Ghosts K V} where
   -- what an end knows of the queues that it can take from
   abbrev pub known : RuledStealPool V K rule → Known V
-  known end = record { own = worker_view end.own; spare = end.spare.items; others = known_in end.others.items }
+  known end = record { own = worker_view end.own; spare = end.spare.items; others = known_in end.seats.items }
 
   -- a new end of a pool for so many cells: it has put and taken nothing, and its queues are empty
   pub record IsNewEnd (cells : ℕ) (end : RuledStealPool V K rule) : Type 0 where
@@ -25,16 +25,16 @@ module _ {V K : Type 0} {rule : Ghosts K V} where
   abbrev pub deque_of : RuledStealPool V K rule → RowsId × Global
   deque_of end = worker_deque end.own
 
-  -- the others' deques that it can take from
+  -- the deques that it can take from
   abbrev pub reach_of : RuledStealPool V K rule → List (RowsId × Global)
-  reach_of end = map (λ victim. stealer_deque victim.deque) end.others.items
+  reach_of end = map stealer_deque end.deques.value.items
 
   -- each end can take from each other's deque
   abbrev pub EndsMeet : List (RuledStealPool V K rule) → Type 0
   EndsMeet ends = AllMeet deque_of reach_of ends
 
-  -- two ends have come to take from each other's deque
-  pub record EndsJoin (a b a' b' : RuledStealPool V K rule) : Type 0 where
-    pub one : Grows deque_of reach_of a a'
-    pub other : Grows deque_of reach_of b b'
-    pub meet : Meets deque_of reach_of a' b'
+  -- the ends of these deques, each with a seat in each one
+  pub record AreEnds (cells : ℕ) (deques : List (RowsId × Global)) (ends : List (RuledStealPool V K rule)) : Type 0 where
+    pub new : All (IsNewEnd cells) ends
+    pub own : map deque_of ends ≡ deques
+    pub reach : All (λ end. reach_of end ≡ deques) ends

@@ -8,7 +8,7 @@ mod pool;
 mod rule;
 mod start;
 mod stealing;
-mod victim;
+mod steals;
 
 pub use laws::LockedQueue;
 pub use locked::LockedPool;

@@ -2,21 +2,22 @@
 //!
 //! A worker takes from its own deque in the order of the pool, the oldest cell or the newest one first, and others
 //! take its oldest. A take looks into the own deque first, then into the spare list, which has what the own deque
-//! had no room for, and then into the others' deques in the order of their numbers. No other end
-//! takes from a spare list.
-ghost use Rattle.std.specs.Prelude.{◌≡◌, ◌<◌, All};
-ghost use Rattle.crossbeam_deque.specs.Handles.{worker_flavor, worker_view};
+//! had no room for, and then into the deques of all ends in the order of their numbers. The ends share one list of
+//! these. No other end takes from a spare list.
+ghost use Rattle.std.specs.Prelude.{◌≡◌, ◌<◌, All, length, map};
+ghost use Rattle.crossbeam_deque.specs.Handles.{worker_flavor, worker_view, stealer_deque, stealer_flavor};
 ghost use Rattle.tj_ready.specs.Orders.{flavor_of};
-ghost use Rattle.tj_ready.specs.Victims.{known_in};
+ghost use Rattle.tj_ready.specs.Seats.{AreSeats, known_in};
 
 use crate::pool::Pool;
 use crate::rule::{Bounded, NewestFirst, PoolRule, Putting, Taking};
-use crate::start::{Owner, Size, owner, victim_of};
-use crate::victim::Victim;
+use crate::start::{Owner, deques_of, owners, seats_of};
+use crate::steals::{Deque, steal_first};
+use crossbeam_deque::Pass;
 use std::alloc::Global;
 use std::collections::VecDeque;
 use std::marker::Brand;
-use std::sync::Wait;
+use std::sync::{Arc, Wait};
 use tj_base::{CellId, Oom};
 
 /// An end of a stealing pool whose user keeps a rule of its own.
@@ -26,13 +27,18 @@ pub struct RuledStealPool<V, K: PoolRule<V>> {
     own: Owner<V, K>,
     // What the own deque handed back.
     spare: VecDeque<CellId>,
-    others: Vec<Victim<V, K>>,
+    // The deques of all ends, its own among them, and its seat in the rule of each.
+    deques: Arc<Vec<Deque<V, K>>, Global>,
+    seats: Vec<Pass<CellId, V>>,
     // Whether it was another's cell that it took last.
     stole: bool,
     ghost flavor: { worker_flavor own ≡ flavor_of K.newest },
     ghost own_cells: { K.limit (worker_view own) ≡ cells },
     ghost spare_cells: { All (λ t. t.0 < cells) spare.items },
-    ghost other_cells: { All (λ v. K.limit v ≡ cells) (known_in others.items) },
+    ghost other_cells: { All (λ v. K.limit v ≡ cells) (known_in seats.items) },
+    ghost flavors: { All (λ deque. stealer_flavor deque ≡ flavor_of K.newest) deques.value.items },
+    ghost count: { length seats.items ≡ length deques.value.items },
+    ghost seated: { AreSeats (map stealer_deque deques.value.items) seats.items },
 }
 
 /// An end of a stealing pool whose worker takes its oldest cell first.
@@ -42,63 +48,43 @@ pub type StealPool = RuledStealPool<u32, Bounded>;
 pub type NewestFirstPool = RuledStealPool<u32, NewestFirst<Bounded>>;
 
 impl<V, K: PoolRule<V>> RuledStealPool<V, K> {
-    ghost use Rattle.std.specs.Prelude.{IfOk, OnOk, length};
-    ghost use Rattle.tj_ready.specs.Meetings.{Opens, Meets};
-    ghost use Rattle.tj_ready.specs.Stealing.{IsNewEnd, EndsJoin, EndsMeet, deque_of, reach_of};
+    ghost use Rattle.std.specs.Prelude.{IfOk};
+    ghost use Rattle.crossbeam_deque.specs.Handles.{worker_deque};
+    ghost use Rattle.tj_ready.specs.Seats.{IsHand, IsNewOwner};
+    ghost use Rattle.tj_ready.specs.Stealing.{AreEnds};
 
-    // An end that can take from no other yet, with room for so many others.
-    fn alone<S: Size>(alloc: Global, workers: u32, cells: u32) -> Result<Self, Oom>
-        requires { (S.cells ≡ cells) × (0 < cells) }
-        ensures { IfOk result (IsNewEnd cells) }
+    // The ends of these deques, each with the seats that were dealt to it.
+    fn ends(
+        alloc: Global,
+        owners: Vec<Owner<V, K>>,
+        mut hands: Vec<Vec<Pass<CellId, V>>>,
+        deques: &Arc<Vec<Deque<V, K>>, Global>,
+        cells: u32,
+    ) -> Result<Vec<Self>, Oom>
+        requires new { All (IsNewOwner (flavor_of K.newest) (K.own cells)) owners.items }
+        requires deques { map stealer_deque deques.now.value.items ≡ map worker_deque owners.items }
+        requires flavors { All (λ deque. stealer_flavor deque ≡ flavor_of K.newest)
+            deques.now.value.items }
+        requires hands { (length hands.items ≡ length owners.items)
+            × All (λ seats. IsHand (map worker_deque owners.items) (K.other cells) seats.items)
+            hands.items }
+        ensures { IfOk result (λ ends. AreEnds cells (map worker_deque owners.items) ends.items) }
     {
-        Ok(RuledStealPool {
-            cells,
-            own: owner::<V, K, S>(alloc, cells)?,
-            spare: VecDeque::new(alloc),
-            others: Vec::with_capacity(alloc, workers as usize)?,
-            stole: false,
-        })
-    }
-
-    // Lets this end take from the other's deque. Both are new.
-    fn open(&mut self, other: &mut Self, cells: u32) -> Result<(), Oom>
-        requires some { 0 < cells }
-        requires new { IsNewEnd cells self.old × IsNewEnd cells other.old }
-        ensures new { IsNewEnd cells self.new × IsNewEnd cells other.new }
-        ensures open { OnOk result
-            (Opens deque_of reach_of self.old (deque_of other.old) self.new) }
-        ensures other { (deque_of other.new ≡ deque_of other.old)
-            × (reach_of other.new ≡ reach_of other.old) }
-    {
-        self.others.push(victim_of(&mut other.own, cells)?)?;
-        Ok(())
-    }
-
-    // Lets each of two ends take from the other's deque.
-    fn join(&mut self, other: &mut Self, cells: u32) -> Result<(), Oom>
-        requires some { 0 < cells }
-        requires new { IsNewEnd cells self.old × IsNewEnd cells other.old }
-        ensures new { IsNewEnd cells self.new × IsNewEnd cells other.new }
-        ensures join { OnOk result (EndsJoin self.old other.old self.new other.new) }
-    {
-        self.open(other, cells)?;
-        other.open(self, cells)
-    }
-
-    // Lets this end and each of the others take from each other's deque.
-    fn meet(&mut self, others: &mut Vec<Self>, cells: u32) -> Result<(), Oom>
-        requires some { 0 < cells }
-        requires new { IsNewEnd cells self.old × All (IsNewEnd cells) others.old.items }
-        requires meet { EndsMeet others.old.items }
-        ensures new { IsNewEnd cells self.new × All (IsNewEnd cells) others.new.items }
-        ensures same { length others.new.items ≡ length others.old.items }
-        ensures meet { OnOk result (EndsMeet others.new.items
-            × All (Meets deque_of reach_of self.new) others.new.items) }
-    {
-        for at in 0..others.len() {
-            self.join(&mut others[at], cells)?;
+        let mut ends = Vec::with_capacity(alloc, owners.len())?;
+        for own in owners {
+            let Some(seats) = hands.pop() else {
+                unreachable!()
+            };
+            ends.push(RuledStealPool {
+                cells,
+                own,
+                spare: VecDeque::new(alloc),
+                deques: Arc::try_clone(deques)?,
+                seats,
+                stole: false,
+            })?;
         }
-        Ok(())
+        Ok(ends)
     }
 }
 
@@ -131,7 +117,7 @@ impl<V, K: PoolRule<V>> RuledStealPool<V, K> {
         self.spare.pop_front()
     }
 
-    // The front of the first of the others' deques, by their numbers, that has one to give.
+    // The front of the first of the deques, by their numbers, that has one to give.
     fn steal<R: Wait>(&mut self, rt: &R) -> Option<CellId>
         ensures cells { self.new.cells ≡ self.old.cells }
         ensures below { IfSome result (λ t. t.0 < self.old.cells) }
@@ -140,7 +126,7 @@ impl<V, K: PoolRule<V>> RuledStealPool<V, K> {
             × All (left_there K.newest K.empty K.few) (known self.old).others)
             (λ t. StepsOther K.takes (known self.old) t (known self.new)) }
     {
-        Victim::steal_first(&mut self.others, rt)
+        steal_first::<V, K, R>(&self.deques, &mut self.seats, rt)
     }
 }
 
@@ -165,12 +151,13 @@ impl<V, K: PoolRule<V>> Pool for RuledStealPool<V, K> {
         FindsNone K.empty (left_there K.newest K.empty K.few) (known old) (known new) };
 
     fn make<R: Wait>(_rt: &R, alloc: Global, workers: u32, cells: u32) -> Result<Vec<Self>, Oom> {
-        let mut ends = Vec::with_capacity(alloc, workers as usize)?;
+        let mut owners = owners::<V, K, Brand>(alloc, workers, cells)?;
+        let deques = Arc::new(alloc, deques_of::<V, K>(alloc, &owners, cells)?)?;
+        let mut hands = Vec::with_capacity(alloc, workers as usize)?;
         for _i in 0..workers {
-            let mut end = Self::alone::<Brand>(alloc, workers, cells)?;
-            end.meet(&mut ends, cells)?;
-            ends.push(end)?;
+            hands.push(seats_of::<V, K>(alloc, &mut owners, cells)?)?;
         }
+        let ends = Self::ends(alloc, owners, hands, &deques, cells)?;
         Ok(ends)
     }
 

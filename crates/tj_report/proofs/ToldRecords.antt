@@ -44,7 +44,7 @@ module _ (born : List Reference) where
       let tail = rest.1 in
       ((there.0, rest.0), λ i. first i ∷ tail i)
 
-  fill_says : (f : Fill) (v : Value) → FillSays born f v
+  pub fill_says : (f : Fill) (v : Value) → FillSays born f v
       → IsFillBelow many f × (shown_by (names born) f ≡ shown_of v)
   fill_says (fill.Num i) v h = (tt, ap shown_of (sym h))
   fill_says (fill.Promise c) v h =

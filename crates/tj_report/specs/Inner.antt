@@ -5,3 +5,4 @@ pub mod CellNamesBy
 pub mod WalkedReports
 pub mod AwaitedCells
 pub mod RestAlarms
+pub mod NamedCells

@@ -2,3 +2,4 @@ pub mod SummaryTexts
 pub mod ClosedOutcomes
 pub mod Inner
 pub mod RestReports
+pub mod NamedValues

@@ -61,10 +61,19 @@ pub fn climbed_names<B: Body>(
 {
     let mut list = Vec::new(alloc);
     for c in cells {
-        let parts = parts_of(alloc, rest, *c)?;
-        list.push(name_with(alloc, parts.as_slice())?)?;
+        list.push(name_at(alloc, rest, *c)?)?;
     }
     Ok(list)
+}
+
+/// The name of a cell.
+pub fn name_at<B: Body>(alloc: Global, rest: &RestWords<B>, c: CellId) -> Result<Name, Oom>
+    requires there { c.0 < length rest.now.cells }
+    requires named { (born : List Reference) × AreNamed rest.now.cells born }
+    ensures { IfOk result (λ name. name ≡ name_by rest.now.cells c.0) }
+{
+    let parts = parts_of(alloc, rest, c)?;
+    name_with(alloc, parts.as_slice())
 }
 
 /// The name with these numbers.

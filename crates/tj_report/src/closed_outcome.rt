@@ -11,6 +11,7 @@ ghost use Rattle.tj_words.specs.AtRest.RestMeaning.{AreCyclesOfMeaningAlarmed, H
 
 use crate::cell_names::names_of;
 use crate::told_records::told_by;
+use crate::walk_order::in_walk_order;
 use std::alloc::Global;
 use tj_base::{CellId, Name, Oom};
 use tj_body::Body;
@@ -35,7 +36,8 @@ pub fn outcome_of<B: Body>(alloc: Global, rest: &RestWords<B>) -> Result<Outcome
         → IfOk result (AreCyclesOfOutcomeAlarmed rest.now.cells) }
 {
     let names = names_of(alloc, rest)?;
-    let tasks = told_tasks(alloc, rest, names.as_slice())?;
+    let told = told_tasks(alloc, rest, names.as_slice())?;
+    let tasks = in_walk_order(alloc, rest, told)?;
     told_outcome(alloc, tasks)
 }
 

@@ -15,6 +15,10 @@ mod summary;
 mod told_records;
 
 pub use closed_outcome::outcome_of;
+pub use named_values::{Became, value_named};
 pub use report::{add_shown, report_text};
 pub use rest_report::{RestReport, report_at_rest};
 pub use summary::summary_text;
+
+mod named_values;
+mod walk_order;

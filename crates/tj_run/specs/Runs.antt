@@ -9,6 +9,7 @@ use Rattle.tj_words.specs.AtRest.ClosedCells.{AreAtRest, AreCyclesAlarmed, AreAl
 use Rattle.tj_words.specs.AtRest.EndedRuns.{EndsRun}
 use Rattle.tj_words.specs.AtRest.RestMeaning.{HaveMeaning, AreCyclesOfMeaningAlarmed}
 use Rattle.tj_words.specs.AtRest.RestShown.{RestShown}
+use Rattle.tj_words.specs.AtRest.RestValues.{AreValuesOfMeaning}
 
 module _ {B : Type 0} where
   -- there are so many workers, one at least and 64 at most, and the seat's lot can be split among them
@@ -17,8 +18,8 @@ module _ {B : Type 0} where
     pub few : workers ≤ 64
     pub lot : least_lot * workers ≤ v.lot
 
-  -- nothing goes on, no wake was lost, and the words and the records are those of the meaning; each cycle of waits,
-  -- shown or meant, has a task that alarmed, and each task that alarmed is on one
+  -- nothing goes on, no wake was lost, and the words and the records are those of the meaning, with the value of each
+  -- cell; each cycle of waits, shown or meant, has a task that alarmed, and each task that alarmed is on one
   pub record RestsAt (program : Bool → B → Program B) (root : B) (limit : ℕ) (strict : Bool) (r : RestShown B) :
       Type 0 where
     pub names_limit : r.limit ≡ limit
@@ -30,6 +31,7 @@ module _ {B : Type 0} where
     pub cycles : AreCyclesAlarmed r.cells
     pub alarms : AreAlarmsOnCycles r.cells
     pub meant_cycles : AreCyclesOfMeaningAlarmed (program strict root) limit r.cells
+    pub values : AreValuesOfMeaning (program strict root) limit r.cells r.words
 
   -- the words and the records are the end of a run of a table from its first state, which its last seat closed
   abbrev pub EndsItsRun : (Bool → B → Program B) → B → ℕ → Bool → RestShown B → Type 0

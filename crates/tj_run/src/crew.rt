@@ -43,9 +43,9 @@ pub fn run_all<B: Body, P: Pool, G: Gate, R: Wait + Threads + Sync>(
     requires root { IsFresh B.places B.awaits B.left 1 root }
     // With `Ok` the table rests: the cells, the root and the rule are those that were given, and no
     // more cells were drawn than there are; each task has ended, or is parked or has alarmed, and
-    // nothing has become of what it waits for; what stands is exactly the meaning of the root; each
-    // standing cycle, and each cycle of the meaning's waits, has a member that has alarmed, and
-    // each task that has alarmed is on a cycle.
+    // nothing has become of what it waits for; what stands is exactly the meaning of the root, with
+    // the value of each cell; each standing cycle, and each cycle of the meaning's waits, has a
+    // member that has alarmed, and each task that has alarmed is on a cycle.
     ensures rest { IfOk result (RestsAt
         (program_of B.places B.awaits B.left B.asks B.then) root cells strict) }
     // The words and the records are the end of a run of a table for this program from its first

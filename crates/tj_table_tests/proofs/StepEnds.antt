@@ -1,7 +1,7 @@
 -- A task that owns its result alone ends step by step, and nobody waits for it: what each step needs of the seat.
 use Rattle.tj_run.proofs.Prelude.{Bool, CellId, Fill, HasNoRecord, HasWoken, IsFilledWith, IsLeft, Laid, List, MayEnd}
 use Rattle.tj_run.proofs.Prelude.{MayFill}
-use Rattle.tj_run.proofs.Prelude.{MayGiveUp, MayWake, None, Program, Rec, SeatMe, Some, View, WakesAll, WritesBecome}
+use Rattle.tj_run.proofs.Prelude.{MayGiveUp, MayWake, None, Program, Rec, SeatMe, Some, View, WritesBecome}
 use Rattle.tj_run.proofs.Prelude.{[], ap, became, drop, length, refl, rest, subst, sym, ℕ, ◌<◌, ◌∙◌, ◌∷◌, ◌≡◌, ◌≢◌}
 use Rattle.tj_words.specs.declared.head.Head.{Head}
 use Rattle.tj_words.specs.Calls.ChainSteps.{TakesChain, found_taken}
@@ -11,7 +11,7 @@ use Rattle.tj_park.specs.Endings.{MayFinish, result_of}
 use Rattle.tj_park.specs.Inner.Closings.{MayCloseResult, ended_record}
 use Rattle.tj_park.proofs.BreakSteps.{none_broken}
 use Rattle.tj_park.proofs.ResultCloses.{filled_closes, may_close_last, may_fill_last}
-use Rattle.tj_park.proofs.WakeLoops.{waking_at_first, woke_all}
+use Rattle.tj_park.proofs.WakeLoops.{Waking, none_left, waking_at_first}
 use Rattle.tj_table_tests.specs.EndsAlone.{EndsAlone}
 use Rattle.tj_run.proofs.Runs.EndConditions.{ended_left, ends_by, may_finish, none_other, slot_is}
 use Rattle.tj_words.specs.declared.head.Head.TheVariants as head
@@ -28,16 +28,16 @@ alone_rest (x ∷ (y ∷ l)) e = absurd (cc)
 pub nobody_woken : {B : Type 0} (cells p : ℕ) (h : Head) (v w : View B) → h ≡ head.Empty → v.rest ≡ None
     → (h ≡ head.Shut → w ≡ found_taken p v) → (h ≢ head.Shut → TakesChain cells p h v w) → HasWoken p [] [] v w
 nobody_woken {B} cells p h v w is none again takes =
-    subst (λ l. HasWoken p l [] v w) (is_empty all.chain all.all) all.woke
+    subst (λ l. HasWoken p l [] v w) (is_empty k.front k.counted)
+    (subst (λ l. HasWoken p k.front l v w)
+    (none_left cells h k.left k.begins (λ t e. let z = sym is ∙ e in absurd (cc))) k.woke)
   where
     is_empty : (l : List ℕ) → length l ≡ 0 → l ≡ []
     is_empty [] e = refl
     is_empty (x ∷ l) e = absurd (cc)
 
-    all : WakesAll {P = Unit {0}} (λ a t b. Unit {0}) p 0 v w tt tt
-    all = woke_all {P = Unit {0}} (λ a t b. Unit {0}) cells p h 0 v w tt tt
-        (waking_at_first {P = Unit {0}} (λ a t b. Unit {0}) cells p h v w tt none again takes)
-        (λ t e. let z = sym is ∙ e in absurd (cc))
+    k : Waking {P = Unit {0}} (λ a t b. Unit {0}) cells p h 0 v w tt tt
+    k = waking_at_first {P = Unit {0}} (λ a t b. Unit {0}) cells p h v w tt none again takes
 
 -- the same of the record with the number that its cell was read to have
 pub ends_at : {B : Type 0} {program : Bool → B → Program B} {laid : Laid B} {r : Rec B} {f : Fill} {me : SeatMe B}

@@ -4,16 +4,19 @@ use Rattle.std.proofs.Common.{Result, Ok, Err, IfOk, IfErr}
 use Rattle.std.proofs.Common.{zero, suc, ◌≤◌, arith, length, get_or, take, refl, sym, ap, ◌∙◌, subst, inl, inr}
 use Rattle.std.proofs.lemmas.List.{take_more}
 use Rattle.std.specs.List.{list_any}
+use Rattle.tj_base.specs.ForkOrder.{Name}
 use Rattle.tj_base.specs.declared.memory.Oom.{Oom}
 use Rattle.tj_body.proofs.Counts.{same_is, same_self}
 use Rattle.tj_body.specs.Names.{same}
 use Rattle.tj_body.specs.Points.{IsIn}
 use Rattle.tj_mean.specs.declared.outcome.Link.{Link}
-use Rattle.tj_mean.proofs.Lists.Elements as elements
+use Rattle.tj_mean.specs.declared.outcome.Outcome.{Outcome}
 use Rattle.tj_told.specs.Hearing.{HasHeard, Hears, IsStoppedBy}
-use Rattle.tj_told.specs.ToldCycles.{AddsTo, AreApart, AreTold, same_cycle, same_link}
+use Rattle.tj_told.specs.ToldNews.{AddsTo, AreApart, AreTold, IsBrokenIn, IsCycleOf, same_cycle, same_link, tells_cycle}
 use Rattle.tj_told.specs.declared.listener.Goes.{Goes}
 use Rattle.tj_told.specs.declared.listener.Goes.TheVariants as goes
+use Rattle.tj_told.specs.declared.news.News.{News}
+use Rattle.tj_told.specs.declared.news.News.TheVariants as news
 
 both_true : (a b : Bool) → (a && b) ≡ true → (a ≡ true) × (b ≡ true)
 both_true true true e = (refl, refl)
@@ -42,27 +45,34 @@ cycle_self : (a : List Link) → same_cycle a a ≡ true
 cycle_self [] = refl
 cycle_self (x ∷ xs) = ap (λ z. z && same_cycle xs xs) (link_self x) ∙ cycle_self xs
 
--- the test tells whether a cycle is among others
-pub is_in : (c : List Link) (cs : List (List Link)) → list_any (same_cycle c) cs ≡ true → IsIn c cs
+-- what was told is this cycle where the test says so
+told_is : (c : List Link) (n : News) → tells_cycle c n ≡ true → n ≡ news.Cycle c
+told_is c (news.Cycle d) e = ap (λ z. news.Cycle z) (sym (cycle_is c d e))
+told_is c (news.Broken q) e = absurd (cc)
+
+-- the test tells whether a cycle is among what was told
+pub is_in : (c : List Link) (ns : List News) → list_any (tells_cycle c) ns ≡ true → IsIn (news.Cycle c) ns
 is_in c [] e = absurd (cc)
-is_in c (d ∷ ds) e = by (same_cycle c d) refl (λ t. is_in c ds t)
+is_in c (n ∷ ns) e = by (tells_cycle c n) refl (λ t. is_in c ns t)
   where
-    by : (b : Bool) → same_cycle c d ≡ b → (list_any (same_cycle c) ds ≡ true → IsIn c ds) → IsIn c (d ∷ ds)
-    by true f more = inl (cycle_is c d f)
-    by false f more = inr (more (sym (ap (λ z. z || list_any (same_cycle c) ds) f) ∙ e))
+    by : (b : Bool) → tells_cycle c n ≡ b → (list_any (tells_cycle c) ns ≡ true → IsIn (news.Cycle c) ns)
+        → IsIn (news.Cycle c) (n ∷ ns)
+    by true f more = inl (sym (told_is c n f))
+    by false f more = inr (more (sym (ap (λ z. z || list_any (tells_cycle c) ns) f) ∙ e))
 
-pub in_is : (c : List Link) (cs : List (List Link)) → IsIn c cs → list_any (same_cycle c) cs ≡ true
+in_is : (c : List Link) (ns : List News) → IsIn (news.Cycle c) ns → list_any (tells_cycle c) ns ≡ true
 in_is c [] i = absurd i
-in_is c (d ∷ ds) (inl e) =
-    ap (λ z. z || list_any (same_cycle c) ds) (subst (λ z. same_cycle c z ≡ true) e (cycle_self c))
-in_is c (d ∷ ds) (inr i) = by (same_cycle c d) refl (in_is c ds i)
+in_is c (n ∷ ns) (inl e) =
+    ap (λ z. z || list_any (tells_cycle c) ns) (subst (λ z. tells_cycle c z ≡ true) e (cycle_self c))
+in_is c (n ∷ ns) (inr i) = by (tells_cycle c n) refl (in_is c ns i)
   where
-    by : (b : Bool) → same_cycle c d ≡ b → list_any (same_cycle c) ds ≡ true → list_any (same_cycle c) (d ∷ ds) ≡ true
-    by true f more = ap (λ z. z || list_any (same_cycle c) ds) f
-    by false f more = ap (λ z. z || list_any (same_cycle c) ds) f ∙ more
+    by : (b : Bool) → tells_cycle c n ≡ b → list_any (tells_cycle c) ns ≡ true
+        → list_any (tells_cycle c) (n ∷ ns) ≡ true
+    by true f more = ap (λ z. z || list_any (tells_cycle c) ns) f
+    by false f more = ap (λ z. z || list_any (tells_cycle c) ns) f ∙ more
 
-pub not_in : (c : List Link) (cs : List (List Link)) → list_any (same_cycle c) cs ≡ false → ¬ IsIn c cs
-not_in c cs e i = let t = in_is c cs i in let z : true ≡ false = sym t ∙ e in absurd (cc)
+pub not_in : (c : List Link) (ns : List News) → list_any (tells_cycle c) ns ≡ false → ¬ IsIn (news.Cycle c) ns
+not_in c ns e i = let t = in_is c ns i in let z : true ≡ false = sym t ∙ e in absurd (cc)
 
 module _ {A : Type 0} where
   pub in_snoc : (x y : A) (ys : List A) → IsIn x (ys ++ y ∷ []) → (x ≡ y) ⊎ IsIn x ys
@@ -92,29 +102,28 @@ module _ {A : Type 0} where
       by (inl e) = n (inl (sym e))
       by (inr j) = a.0 j
 
-module _ {T : Type 0} (tells : T → List Link → Goes → T → Type 0) where
-  heard_on : (cs : List (List Link)) (s m : T) (c : List Link) (t : T) → HasHeard tells cs s m → tells m c goes.On t
-      → HasHeard tells (cs ++ c ∷ []) s t
-  heard_on [] s m c t e h = (t, subst (λ z. tells z c goes.On t) (sym e) h, refl)
-  heard_on (d ∷ cs) s m c t e h = (e.0, e.1, heard_on cs e.0 m c t e.2 h)
+module _ {T : Type 0} (tells : T → News → Goes → T → Type 0) where
+  heard_on : (ns : List News) (s m : T) (n : News) (t : T) → HasHeard tells ns s m → tells m n goes.On t
+      → HasHeard tells (ns ++ n ∷ []) s t
+  heard_on [] s m n t e h = (t, subst (λ z. tells z n goes.On t) (sym e) h, refl)
+  heard_on (d ∷ ns) s m n t e h = (e.0, e.1, heard_on ns e.0 m n t e.2 h)
 
-  -- one cycle more, that was none of those before
-  module _ (c : List Link) (before now : List (List Link)) (at last s : T)
-      (new : list_any (same_cycle c) before ≡ false)
-      (is : now ≡ before ++ c ∷ []) (h : Hears tells before s at) where
+  -- one more, that was none of those before
+  module _ (n : News) (before now : List News) (at last s : T) (new : ¬ IsIn n before)
+      (is : now ≡ before ++ n ∷ []) (h : Hears tells before s at) where
     apart : AreApart now
-    apart = subst (λ z. AreApart z) (sym is) (apart_on c before h.apart (not_in c before new))
+    apart = subst (λ z. AreApart z) (sym is) (apart_on n before h.apart new)
 
-    pub hears_on : tells at c goes.On last → Hears tells now s last
+    hears_on : tells at n goes.On last → Hears tells now s last
     hears_on t = record {
-      calls = subst (λ z. HasHeard tells z s last) (sym is) (heard_on before s at c last h.calls t);
+      calls = subst (λ z. HasHeard tells z s last) (sym is) (heard_on before s at n last h.calls t);
       apart = apart;
     }
 
-    pub stopped_by : tells at c goes.Stop last → IsStoppedBy tells now s last
+    stopped_by : tells at n goes.Stop last → IsStoppedBy tells now s last
     stopped_by t = record {
       before = before;
-      last = c;
+      last = n;
       at = at;
       all = is;
       calls = h.calls;
@@ -123,51 +132,56 @@ module _ {T : Type 0} (tells : T → List Link → Goes → T → Type 0) where
     }
 
   -- what a call leaves, by its answer
-  module _ (c : List Link) (before now : List (List Link)) (at last s : T)
-      (new : list_any (same_cycle c) before ≡ false)
+  module _ (n : News) (before now : List News) (at last s : T) (new : ¬ IsIn n before)
     where
-      pub told_goes : (r : Result Goes Oom) → IfOk r (λ _. now ≡ before ++ c ∷ []) → IfOk r (λ g. tells at c g last)
+      pub told_goes : (r : Result Goes Oom) → IfOk r (λ _. now ≡ before ++ n ∷ []) → IfOk r (λ g. tells at n g last)
           → IfErr r (λ _. last ≡ at) → IfErr r (λ _. now ≡ before) → Hears tells before s at → r ≢ Ok goes.Stop
           → Hears tells now s last
-      told_goes (Ok goes.On) e t f g h n = hears_on c before now at last s new e h t
-      told_goes (Ok goes.Stop) e t f g h n = absurd (n refl)
-      told_goes (Err x) e t f g h n =
+      told_goes (Ok goes.On) e t f g h w = hears_on n before now at last s new e h t
+      told_goes (Ok goes.Stop) e t f g h w = absurd (w refl)
+      told_goes (Err x) e t f g h w =
           subst (λ z. Hears tells z s last) (sym g) (subst (λ z. Hears tells before s z) (sym f) h)
 
-      pub told_stops : (r : Result Goes Oom) → IfOk r (λ _. now ≡ before ++ c ∷ []) → IfOk r (λ g. tells at c g last)
+      pub told_stops : (r : Result Goes Oom) → IfOk r (λ _. now ≡ before ++ n ∷ []) → IfOk r (λ g. tells at n g last)
           → Hears tells before s at → r ≡ Ok goes.Stop → IsStoppedBy tells now s last
       told_stops (Ok goes.On) e t h f = absurd (cc)
-      told_stops (Ok goes.Stop) e t h f = stopped_by c before now at last s new e h t
+      told_stops (Ok goes.Stop) e t h f = stopped_by n before now at last s new e h t
       told_stops (Err x) e t h f = absurd (cc)
 
--- a cycle that was told already is added to none
-pub adds_none : (c : List Link) (cs : List (List Link)) → IsIn c cs → AddsTo c cs cs
-adds_none c cs i = record { is = i; kept = λ d j. j; only = λ d j. inr j }
+-- what was heard is of the state and of what was told alone
+pub hears_same : {T : Type 0} (tells : T → News → Goes → T → Type 0) (before now : List News) (s at last : T)
+    → now ≡ before → last ≡ at → Hears tells before s at → Hears tells now s last
+hears_same tells before now s at last e f h =
+    subst (λ z. Hears tells z s last) (sym e) (subst (λ z. Hears tells before s z) (sym f) h)
 
-pub adds_one : (c : List Link) (before now : List (List Link)) → now ≡ before ++ c ∷ [] → AddsTo c before now
-adds_one c before now e = subst (AddsTo c before) (sym e) (record {
-  is = snoc_last c before;
-  kept = λ d j. snoc_left d c before j;
-  only = λ d j. in_snoc d c before j;
+-- what was told already is added to nothing
+pub adds_none : (n : News) (ns : List News) → IsIn n ns → AddsTo n ns ns
+adds_none n ns i = record { is = i; kept = λ d j. j; only = λ d j. inr j }
+
+adds_one : (n : News) (before now : List News) → now ≡ before ++ n ∷ [] → AddsTo n before now
+adds_one n before now e = subst (AddsTo n before) (sym e) (record {
+  is = snoc_last n before;
+  kept = λ d j. snoc_left d n before j;
+  only = λ d j. in_snoc d n before j;
 })
 
-pub adds_if : (c : List Link) (before now : List (List Link)) (r : Result Goes Oom)
-    → IfOk r (λ _. now ≡ before ++ c ∷ [])
-    → IfOk r (λ _. AddsTo c before now)
-adds_if c before now (Ok g) e = adds_one c before now e
-adds_if c before now (Err f) e = tt
+pub adds_if : (n : News) (before now : List News) (r : Result Goes Oom) → IfOk r (λ _. now ≡ before ++ n ∷ [])
+    → IfOk r (λ _. AddsTo n before now)
+adds_if n before now (Ok g) e = adds_one n before now e
+adds_if n before now (Err f) e = tt
 
 -- the cycles so far, and one more
-pub all_so_far : (cs told now : List (List Link)) (i : ℕ) (c : List Link) → i < length cs → c ≡ get_or cs i c
-    → AddsTo c told now → ((d : List Link) → IsIn d (take i cs) → IsIn d told) → (d : List Link)
-    → IsIn d (take (i + 1) cs) → IsIn d now
+pub all_so_far : (cs : List (List Link)) (told now : List News) (i : ℕ) (c : List Link) → i < length cs
+    → c ≡ get_or cs i c → AddsTo (news.Cycle c) told now
+    → ((d : List Link) → IsIn d (take i cs) → IsIn (news.Cycle d) told) → (d : List Link)
+    → IsIn d (take (i + 1) cs) → IsIn (news.Cycle d) now
 all_so_far cs told now i c later is a all d j =
     by (in_snoc d c (take i cs) (subst (λ z. IsIn d z) (take_more cs i c later
     ∙ ap (λ z. take i cs ++ z ∷ []) (sym is)) j))
   where
-    by : (d ≡ c) ⊎ IsIn d (take i cs) → IsIn d now
-    by (inl e) = subst (λ z. IsIn z now) (sym e) a.is
-    by (inr k) = a.kept d (all d k)
+    by : (d ≡ c) ⊎ IsIn d (take i cs) → IsIn (news.Cycle d) now
+    by (inl e) = subst (λ z. IsIn (news.Cycle z) now) (sym e) a.is
+    by (inr k) = a.kept (news.Cycle d) (all d k)
 
 -- an item of the list is in it
 pub item_in : (cs : List (List Link)) (i : ℕ) (c : List Link) → i < length cs → c ≡ get_or cs i c → IsIn c cs
@@ -185,24 +199,44 @@ in_take (c ∷ cs) (suc i) d l (inr k) =
     let m : suc (length cs) ≤ suc i = l in inr (in_take cs i d (omega (arith, m)) k)
 
 -- only the cycles, and what was told before, are told after one of them
-pub only_so_far : (early cs told now : List (List Link)) (c : List Link) → IsIn c cs → AddsTo c told now
-    → ((d : List Link) → IsIn d told → IsIn d early ⊎ IsIn d cs) → (d : List Link) → IsIn d now
-    → IsIn d early ⊎ IsIn d cs
-only_so_far early cs told now c i a only d j = by (a.only d j)
+pub only_so_far : (early told now : List News) (cs : List (List Link)) (c : List Link) → IsIn c cs
+    → AddsTo (news.Cycle c) told now → ((d : News) → IsIn d told → IsIn d early ⊎ IsCycleOf cs d) → (d : News)
+    → IsIn d now → IsIn d early ⊎ IsCycleOf cs d
+only_so_far early told now cs c i a only d j = by (a.only d j)
   where
-    by : (d ≡ c) ⊎ IsIn d told → IsIn d early ⊎ IsIn d cs
-    by (inl e) = inr (subst (λ z. IsIn z cs) (sym e) i)
+    by : (d ≡ news.Cycle c) ⊎ IsIn d told → IsIn d early ⊎ IsCycleOf cs d
+    by (inl e) = inr (c, i, e)
     by (inr k) = only d k
 
--- what was told early is among the cycles, and so is what was told later
-pub all_told : (early cs told : List (List Link)) → ((d : List Link) → IsIn d early → IsIn d cs)
-    → ((d : List Link) → IsIn d told → IsIn d early ⊎ IsIn d cs) → ((d : List Link) → IsIn d cs → IsIn d told)
-    → AreTold told cs
-all_told early cs told among only all = record { only = λ d j. by d (only d j); all = all }
+-- news of a cycle is of that cycle alone, and no news of a broken cell
+abbrev cycle_in : News → List Link → List Link
+cycle_in (news.Cycle c) d = c
+cycle_in (news.Broken q) d = d
+
+pub same_told : (c d : List Link) → news.Cycle c ≡ news.Cycle d → c ≡ d
+same_told c d e = ap (λ n. cycle_in n c) e
+
+pub not_cycle : (q : Name) (d : List Link) → news.Broken q ≡ news.Cycle d → ⊥
+not_cycle q d e = absurd (cc)
+
+-- what was told early is so by the outcome, and later only its cycles were told, and all of them
+pub all_told : (early told : List News) (o : Outcome) → ((c : List Link) → IsIn (news.Cycle c) early → IsIn c o.cycles)
+    → ((q : Name) → IsIn (news.Broken q) early → IsBrokenIn o q)
+    → ((d : News) → IsIn d told → IsIn d early ⊎ IsCycleOf o.cycles d)
+    → ((c : List Link) → IsIn c o.cycles → IsIn (news.Cycle c) told) → AreTold told o
+all_told early told o cycles broken only all = record {
+  only = λ c i. cycle c (only (news.Cycle c) i);
+  all = all;
+  broken = λ q i. one q (only (news.Broken q) i);
+}
   where
-    by : (d : List Link) → IsIn d early ⊎ IsIn d cs → IsIn d cs
-    by d (inl i) = among d i
-    by d (inr i) = i
+    cycle : (c : List Link) → IsIn (news.Cycle c) early ⊎ IsCycleOf o.cycles (news.Cycle c) → IsIn c o.cycles
+    cycle c (inl i) = cycles c i
+    cycle c (inr k) = subst (λ z. IsIn z o.cycles) (sym (same_told c k.0 k.2)) k.1
+
+    one : (q : Name) → IsIn (news.Broken q) early ⊎ IsCycleOf o.cycles (news.Broken q) → IsBrokenIn o q
+    one q (inl i) = broken q i
+    one q (inr k) = absurd (not_cycle q k.0 k.2)
 
 -- an answer On isn't Stop
 pub on_no_stop : (r : Result Goes Oom) (g : Goes) → r ≡ Ok g → g ≡ goes.On → r ≢ Ok goes.Stop
@@ -211,11 +245,8 @@ on_no_stop r g e i f =
     let z : Ok goes.On ≡ Ok goes.Stop = sym on ∙ f in absurd (cc)
 
 -- whatever comes of the call, only that one is new
-pub only_added : (link : List Link) (before now : List (List Link)) (r : Result Goes Oom)
-    → IfOk r (λ z. now ≡ before ++ link ∷ []) → IfErr r (λ z. now ≡ before) → (d : List Link) → IsIn d now
-    → (d ≡ link) ⊎ IsIn d before
-only_added link before now (Ok x) h k d i = by (elements.in_snoc before d link (subst (IsIn d) h i)) where
-  by : IsIn d before ⊎ (d ≡ link) → (d ≡ link) ⊎ IsIn d before
-  by (inl j) = inr j
-  by (inr e) = inl e
-only_added link before now (Err x) h k d i = inr (subst (IsIn d) k i)
+pub only_added : (n : News) (before now : List News) (r : Result Goes Oom)
+    → IfOk r (λ z. now ≡ before ++ n ∷ []) → IfErr r (λ z. now ≡ before) → (d : News) → IsIn d now
+    → (d ≡ n) ⊎ IsIn d before
+only_added n before now (Ok x) h k d i = in_snoc d n before (subst (IsIn d) h i)
+only_added n before now (Err x) h k d i = inr (subst (IsIn d) k i)

@@ -10,3 +10,6 @@ pub mod ToldRounds
 pub mod SeenRounds
 pub mod LoggedRounds
 pub mod LeastLinks
+pub mod KeptNews
+pub mod BrokenCells
+pub mod LoadedTags

@@ -4,7 +4,6 @@ use Rattle.std.proofs.Common.{Some, refl, sym, ap}
 use Rattle.std.proofs.Common.{◌∙◌, subst, inl, inr, append_assoc}
 use Rattle.tj_base.specs.ForkOrder.{Name}
 use Rattle.tj_base.specs.declared.cell.CellId.{CellId}
-use Rattle.tj_body.proofs.Lists.{in_right}
 use Rattle.tj_body.specs.Points.{IsIn}
 use Rattle.tj_events.specs.declared.walk.Way.{Way}
 use Rattle.tj_log.specs.declared.entry.Entry.{Entry}
@@ -21,7 +20,7 @@ use Rattle.tj_words.specs.declared.phase.Walk.TheVariants as walk
 use Rattle.tj_words.specs.declared.view.SeenWord.{SeenWord}
 use Rattle.tj_told.specs.ToldLoads.{ArePartOf, ComesBack, GrowsTo, HasSeenAlarm, IsWayOn, Turn, loads_of}
 use Rattle.tj_told.specs.ToldLoads.{owner_load, phase_load}
-use Rattle.tj_told.specs.ToldLinks.{AreLinksOf, AreSeen, AreSeenBy, FindsTurn, IsFromLeast, IsSeenRound, SeesName}
+use Rattle.tj_told.specs.ToldLinks.{AreLinksOf, FindsTurn, IsFromLeast, IsSeenRound, SeesName}
 use Rattle.tj_told.proofs.Climbing.{name_where}
 
 -- a part of a list is one of each longer list
@@ -196,29 +195,3 @@ seen_later a b seen wide g w c r = record {
   named = links_where seen wide w r.turns r.links r.named;
   least = r.least;
 }
-
--- so are all that were told
-pub all_later : (a b : List Entry) (seen wide : List SeenWord) → GrowsTo a b
-    → ((x : SeenWord) → IsIn x seen → IsIn x wide) → (cycles : List (List Link)) → AreSeen a seen cycles
-    → AreSeen b wide cycles
-all_later a b seen wide g w cycles h c i = seen_later a b seen wide g w c (h c i)
-
--- with one more
-pub all_with : (a : List Entry) (seen : List SeenWord) (link : List Link) (cycles more : List (List Link))
-    → ((d : List Link) → IsIn d more → (d ≡ link) ⊎ IsIn d cycles) → IsSeenRound a seen link → AreSeen a seen cycles
-    → AreSeen a seen more
-all_with a seen link cycles more only r h d i = by (only d i) where
-  by : (d ≡ link) ⊎ IsIn d cycles → IsSeenRound a seen d
-  by (inl e) = subst (IsSeenRound a seen) (sym e) r
-  by (inr j) = h d j
-
--- what an observer has seen is seen by the seat that takes it in
-pub seen_taken : (a : List (List Entry)) (b : List Entry) (d : List (List Entry)) (logs : List (List Entry))
-    (seen more all : List SeenWord) (cycles : List (List Link)) → logs ≡ a ++ b ∷ d → all ≡ more ++ seen
-    → AreSeen b seen cycles → AreSeenBy logs all cycles
-seen_taken a b d logs seen more all cycles e f h c i = (
-  b,
-  subst (IsIn b) (sym e) (in_right b a (b ∷ d) (inl refl)),
-  subst (λ z. IsSeenRound b z c) (sym f)
-      (seen_later b b seen (more ++ seen) ([], refl) (λ x j. in_right x more seen j) c (h c i)),
-)

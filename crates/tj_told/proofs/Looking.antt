@@ -55,7 +55,8 @@ module _ {B : Type 0} where
       x = loaded_phase t p v
 
       loaded : Keeps v x
-      loaded = keeps_noted v x (λ e. e) (λ e. ap (rest_loaded t p) e) (note_of (note.Phase t) (phase_word p) v ∷ [], refl)
+      loaded = keeps_noted v x (λ e. e) (λ e. ap (rest_loaded t p) e)
+          (note_of (note.Phase t) (phase_word p) v ∷ [], refl)
 
       begun : IsBegun p → Keeps v w
       begun b = keeps_on v x w loaded (keeps_met cells (t ∷ []) t x w (s.0 none b))

@@ -1,7 +1,6 @@
 -- Which faults a run has, by those of its parts.
 use Rattle.std.proofs.Common.{◌≡◌, ◌≢◌, ℕ, Bool, List, [], Result, Ok, Err, IfOk, refl, sym, subst}
 use Rattle.tj_body.specs.Programs.{Program}
-use Rattle.tj_mean.specs.declared.outcome.Link.{Link}
 use Rattle.tj_mean.specs.declared.outcome.Outcome.{Outcome}
 use Rattle.std.proofs.Common.{Option}
 use Rattle.tj_log.specs.Shown.{SeatShown}
@@ -13,6 +12,7 @@ use Rattle.tj_told.specs.Hearing.{Hears}
 use Rattle.tj_told.specs.declared.fault.ToldFault.{ToldFault}
 use Rattle.tj_told.specs.declared.fault.ToldFault.TheVariants as fault
 use Rattle.tj_told.specs.declared.listener.Goes.{Goes}
+use Rattle.tj_told.specs.declared.news.News.{News}
 
 -- a stop that is passed on was a stop
 pub is_stop : (r : Result (Unit {0}) ToldFault) (f : ToldFault) → r ≡ Err f → (z : Result Outcome ToldFault)
@@ -36,9 +36,9 @@ pub of_ok : {A E : Type 0} (P : A → Type 0) (r : Result A E) (a : A) → r ≡
 of_ok {A} {E} P r a e h = let k : IfOk {E = E} (Ok a) P = subst (λ (z : Result A E). IfOk z P) e h in k
 
 -- nothing was heard at first
-pub first_hears : {T : Type 0} (tells : T → List Link → Goes → T → Type 0) (cycles : List (List Link)) (s t : T)
-    → cycles ≡ [] → t ≡ s → Hears tells cycles s t
-first_hears tells cycles s t none same =
+pub first_hears : {T : Type 0} (tells : T → News → Goes → T → Type 0) (told : List News) (s t : T)
+    → told ≡ [] → t ≡ s → Hears tells told s t
+first_hears tells told s t none same =
     subst (λ z. Hears tells z s t) (sym none) (record { calls = sym same; apart = tt })
 
 -- what follows from two things that hold of an answer holds of it

@@ -1,16 +1,19 @@
 -- A round that was seen is one of the outcome's cycles.
 use Rattle.std.proofs.Common.{◌≡◌, ◌-◌, ◌<◌, ℕ, zero, suc, Bool}
-use Rattle.std.proofs.Common.{List, [], ◌∷◌, Option, refl, sym, ap, ◌∙◌}
+use Rattle.std.proofs.Common.{List, [], ◌∷◌, Option, None, Some, refl, sym, ap, ◌∙◌}
 use Rattle.std.proofs.Common.{subst, arith, length, min, reverse}
 use Rattle.std.proofs.Math.Option.{some-injective}
 use Rattle.std.proofs.lemmas.List.{reverse-append}
 use lib.ListN.{get_elem?}
 use Rattle.atomic_table.specs.Table.{State}
-use Rattle.tj_base.specs.ForkOrder.{child}
+use Rattle.tj_base.specs.ForkOrder.{Name, child}
 use Rattle.tj_body.specs.History.{to_task}
 use Rattle.tj_body.specs.Points.{IsIn}
 use Rattle.tj_body.specs.Programs.{Program}
-use Rattle.tj_body.specs.Rounds.{meaning}
+use Rattle.tj_body.specs.Laws.{IsLast}
+use Rattle.tj_body.specs.Rounds.{given, last_round, meaning}
+use Rattle.tj_body.specs.declared.point.Entry as point_entry
+use Rattle.tj_body.specs.declared.point.Entry.TheVariants as entry
 use Rattle.tj_body.specs.declared.point.Reference.{Reference}
 use Rattle.tj_log.specs.Shown.{SeatShown}
 use Rattle.tj_log.specs.declared.entry.Entry.{Entry}
@@ -19,12 +22,13 @@ use Rattle.tj_mean.specs.declared.outcome.Link.{Link}
 use Rattle.tj_mean.specs.declared.outcome.Outcome.{Outcome}
 use Rattle.tj_words.specs.AtRest.ClosedCells as closed
 use Rattle.tj_words.specs.AtRest.EndedRuns.{EndsRun}
-use Rattle.tj_words.specs.AtRest.RestMeaning.{AreWordsOf}
+use Rattle.tj_words.specs.AtRest.RestMeaning.{AreWordsOf, tag_for}
 use Rattle.tj_words.specs.AtRest.ShownCells.{cell_of, maker_in}
 use Rattle.tj_words.specs.CallLaws.RestedRuns.{Ruled, last_moment}
 use Rattle.tj_words.specs.Law.{Law}
 use Rattle.tj_words.specs.LawParts.Contents.{contents_of, drawn_in}
 use Rattle.tj_words.specs.LawParts.TreeWords.{IsCell}
+use Rattle.tj_words.specs.SeatViews.KnownEntries.{HasSeen}
 use Rattle.tj_words.specs.SeatViews.SeenWords.{seen_word}
 use Rattle.tj_words.specs.Words.Offsets.{once_at, word}
 use Rattle.tj_words.specs.declared.closed.RestCell.{RestCell}
@@ -34,14 +38,22 @@ use Rattle.tj_words.specs.declared.record.Rec.{Rec}
 use Rattle.tj_words.specs.declared.view.SeenWord.{SeenWord}
 use Rattle.tj_words.specs.declared.view.View.{View}
 use Rattle.tj_words.proofs.Lemmas.{at_index}
+use Rattle.tj_words.proofs.Stores.SeatLists.{inside}
 use Rattle.tj_words.proofs.Prelude.{at_map}
 use Rattle.tj_words.proofs.Meaning.MeantCycles.{one_meant, same_names}
 use Rattle.tj_laws.specs.TableWaits.{EveryMoment}
+use Rattle.tj_told.proofs.BrokenCells.{broken_tag, broken_told}
+use Rattle.tj_told.specs.ToldNews.{IsBrokenIn}
 use Rattle.tj_told.proofs.ClosedRounds.{round_meant, turns_closed}
 use Rattle.tj_told.proofs.Loaded.{round_stands}
 use Rattle.tj_told.proofs.ToldRounds.{cycle_told}
 use Rattle.tj_told.specs.ToldLoads.{Turn}
 use Rattle.tj_told.specs.ToldLinks.{AreLinksOf, ClimbsTo, IsNamed, IsSeenRound, SeesName}
+
+-- TAG is 4 where the entry is that of a broken cell
+broken_for : (o : Option point_entry.Entry) → 4 ≡ tag_for o → o ≡ Some entry.Broken
+broken_for None h = let z : 4 ≡ 0 = h in absurd (cc)
+broken_for (Some e) h = ap (λ z. Some z) (broken_tag e h)
 
 -- the maker that a word PARENT names
 maker_number : (p : ℕ) → (maker_in p).0 ≡ p - 1
@@ -129,3 +141,19 @@ module _ {B : Type 0} (every : EveryMoment B) (program : Bool → B → Program 
       (program strict root) limit cells born words r.task r.turns r.links r.round.back closed links in
       cycle_told (meaning (program strict root) limit) (one_meant (program strict root) limit cells born words)
       (same_names (program strict root) limit cells born words) o is r.links c m.0 m.1 r.least
+
+  -- and a cell that was loaded as broken is so by the outcome
+  pub broken_seen : IsLast (program strict root) → (o : Outcome) → IsOutcome (meaning (program strict root) limit) o
+      → (c : ℕ) → HasSeen seat.me.0.filled c entry.Broken → (q : Name) → SeesName seat.me.0.seen c q → IsBrokenIn o q
+  broken_seen is_last o is c i q n =
+      let f = law.meaning.filled_stands seat.id seat.me.0.filled
+      (at_map (λ (z : View B). z.filled) e.last.views seat.id seat.me.0 e.seat_is)
+      (record { cell = c; entry = entry.Broken }) i in
+      let d : c < drawn = let a = inside law.born c f.written.reference f.written.is in
+      let b = law.births.all in omega arith in
+      let x = climbed_name e.last.words drawn cells born words.named each there seat.me.0.seen stands n.0 c n.1 in
+      let name = x.2 ∙ sym n.2 in
+      let given_so = words.entries c (cell_of e.last.words c) x.0 (each c d) x.1 in
+      broken_told (program strict root) limit is_last words.fits o is q
+      (subst (λ z. given (program strict root) (last_round limit) z ≡ Some entry.Broken) name
+      (broken_for (given (program strict root) (last_round limit) x.0.name) (sym f.tag_is ∙ given_so)))

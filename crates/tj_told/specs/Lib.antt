@@ -1,5 +1,6 @@
-pub mod ToldCycles
+pub mod ToldNews
 pub mod ToldLoads
 pub mod ToldLinks
 pub mod Hearing
 pub mod Observers
+pub mod SeenNews

@@ -60,12 +60,3 @@ pub record IsSeenRound (log : List Entry) (seen : List SeenWord) (turned : List 
   pub links : List Link
   pub named : AreLinksOf (SeesName seen) turns links
   pub least : IsFromLeast links turned
-
--- each of the cycles is such a round
-abbrev pub AreSeen : List Entry → List SeenWord → List (List Link) → Type 0
-AreSeen log seen cycles = (c : List Link) → IsIn c cycles → IsSeenRound log seen c
-
--- each of the cycles is such a round of one of these logs
-abbrev pub AreSeenBy : List (List Entry) → List SeenWord → List (List Link) → Type 0
-AreSeenBy logs seen cycles =
-    (c : List Link) → IsIn c cycles → (log : List Entry) × IsIn log logs × IsSeenRound log seen c

@@ -1,8 +1,9 @@
-//! Copies of cycles, and the tests whether two are equal, and whether one is among some.
+//! Copies of cycles, and the tests whether two are equal, and whether one was told.
 ghost use Rattle.std.specs.Prelude.{◌≡◌, IfOk};
 ghost use Rattle.std.specs.List.{list_any};
-ghost use Rattle.tj_told.specs.ToldCycles.{same_cycle};
+ghost use Rattle.tj_told.specs.ToldNews.{same_cycle, tells_cycle};
 
+use crate::news::News;
 use std::alloc::Global;
 use tj_base::{Items, Oom};
 use tj_mean::{Link, LinkList};
@@ -28,11 +29,21 @@ fn link_copy(alloc: Global, link: &Link) -> Result<Link, Oom>
     Ok(Link { task, cell })
 }
 
-/// Whether the cycle is among these.
-pub(crate) fn is_among(links: &LinkList, cycles: &[LinkList]) -> bool
-    ensures { result ≡ list_any (same_cycle links.now) cycles.now }
+/// Whether the cycle is among what was told.
+pub(crate) fn is_among(links: &LinkList, told: &[News]) -> bool
+    ensures { result ≡ list_any (tells_cycle links.now) told.now }
 {
-    cycles.iter().any(|cycle| are_same(links, cycle))
+    told.iter().any(|news| tells_cycle(links, news))
+}
+
+/// Whether the cycle is what was told.
+fn tells_cycle(links: &LinkList, news: &News) -> bool
+    ensures { result ≡ tells_cycle links.now news.now }
+{
+    match news {
+        News::Cycle(cycle) => are_same(links, cycle),
+        News::Broken(_) => false,
+    }
 }
 
 /// Whether two cycles are equal.

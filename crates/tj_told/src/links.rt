@@ -53,8 +53,8 @@ fn link_of<B: Body>(
     requires cell { IsCellOf laid.now t.0 }
     ensures seat { LooksOn seat.old seat.new }
     ensures owner { IfOk result (λ found. IfSome found (λ out. IsCellOf laid.now out.1.0)) }
-    ensures turn { IfOk result (λ found. IfSome found (λ out. FindsTurn t.0 out.0 out.1.0 seat.old.log
-        seat.new.log seat.new.me.0.seen)) }
+    ensures turn { IfOk result (λ found. IfSome found (λ out. FindsTurn t.0 out.0 out.1.0
+        seat.old.log seat.new.log seat.new.me.0.seen)) }
 {
     let Phase::Waiting(cell, _, _) = laid.see_phase(seat, t, None) else {
         return Ok(None);

@@ -1,11 +1,13 @@
-//! Who is told of deadlocks.
-ghost use Rattle.std.specs.Prelude.{List, ⊤};
-ghost use Rattle.tj_mean.specs.declared.outcome.Link.{Link};
+//! Who is told of deadlocks, and of what is broken.
+ghost use Rattle.std.specs.Prelude.{⊤};
 ghost use Rattle.tj_told.specs.declared.listener.Goes.{Goes};
+ghost use Rattle.tj_told.specs.declared.news.News.{News};
+ghost use Rattle.tj_told.specs.declared.news.News.TheVariants as news;
 
+use tj_base::Name;
 use tj_mean::LinkList;
 
-/// Whether a run is to go on that has told of a deadlock.
+/// Whether a run is to go on of which something was told.
 #[derive(Clone, Copy, Debug, PartialEq, Eq)]
 pub enum Goes {
     On,
@@ -13,14 +15,20 @@ pub enum Goes {
     Stop,
 }
 
-/// Who is told of deadlocks. It may be called from another thread, but by one at a time.
+/// Who is told of deadlocks, and of what is broken. It may be called from another thread, but by one
+/// at a time.
 pub trait Listener: Sized + Send + Drop {
-    /// What is to be known of a call: of the listener before, the links, its answer and the listener
-    /// after it.
-    ghost tells: { Self → List Link → Goes → Self → Type 0 } = { λ _ _ _ _. ⊤ };
+    /// What is to be known of a call: of the listener before, what it is told, its answer and the
+    /// listener after it.
+    ghost tells: { Self → News → Goes → Self → Type 0 } = { λ _ _ _ _. ⊤ };
 
     /// It is told of tasks that wait for each other for good, from the least name on.
     fn cycle(&mut self, links: &LinkList) -> Goes
         // A call is as the listener says that its calls are.
-        ensures { tells self.old links.now result self.new };
+        ensures { tells self.old (news.Cycle links.now) result self.new };
+
+    /// It is told of a promise, or of the result of a task, that has no value and gets none.
+    fn broken(&mut self, name: &Name) -> Goes
+        // A call is as the listener says that its calls are.
+        ensures { tells self.old (news.Broken name.now) result self.new };
 }

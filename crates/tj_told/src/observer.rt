@@ -1,9 +1,9 @@
 //! An observer: beside the workers it looks at the phases of the cells that are drawn.
-ghost use Rattle.std.specs.Prelude.{◌≡◌, ◌≢◌, Ok};
+ghost use Rattle.std.specs.Prelude.{◌≡◌, ◌≢◌, Ok, get_or, false};
 ghost use Rattle.tj_words.specs.SeatViews.SeatSteps.{IsCellOf};
 ghost use Rattle.tj_told.specs.Hearing.{Hears, IsStoppedBy};
 ghost use Rattle.tj_told.specs.Observers.{LooksOn, Observes};
-ghost use Rattle.tj_told.specs.ToldLinks.{AreSeen};
+ghost use Rattle.tj_told.specs.SeenNews.{AreSeen, IsBrokenNow};
 ghost use Rattle.std.specs.Prelude.{true};
 ghost use Rattle.tj_base.specs.declared.cell.CellId.{CellId};
 ghost use Rattle.tj_events.specs.declared.walk.Way.{Way};
@@ -13,6 +13,7 @@ ghost use Rattle.tj_words.specs.declared.phase.Walk.TheVariants as walk;
 use crate::links::cycle_of;
 use crate::listener::{Goes, Listener};
 use crate::looks::Looks;
+use crate::names::name_at;
 use crate::telling::Telling;
 use std::alloc::Global;
 use std::sync::Wait;
@@ -20,7 +21,7 @@ use std::thread::Parker;
 use std::time::Duration;
 use tj_base::{CellId, Oom};
 use tj_body::Body;
-use tj_words::{Laid, Phase, WSeat, Walk};
+use tj_words::{Laid, Once, Phase, WSeat, Walk};
 
 /// What a look came to, and how an observer leaves.
 #[derive(Clone, Copy)]
@@ -50,12 +51,14 @@ pub(crate) fn observe<B: Body, T: Listener, R: Wait>(
     requires seat { Observes laid.now seat }
     ensures seat { Observes laid.now result.0 }
     ensures lot { result.0.me.0.lot ≡ seat.me.0.lot }
-    ensures seen { AreSeen seat.log seat.me.0.seen telling.cycles
-        → AreSeen result.0.log result.0.me.0.seen result.1.cycles }
-    ensures goes { (s : T) → Hears T.tells telling.cycles s telling.listener
-        → result.2 ≢ Sight.Stops → Hears T.tells result.1.cycles s result.1.listener }
-    ensures stops { (s : T) → Hears T.tells telling.cycles s telling.listener
-        → result.2 ≡ Sight.Stops → IsStoppedBy T.tells result.1.cycles s result.1.listener }
+    ensures seen { AreSeen seat telling.met.items telling.news
+        → AreSeen result.0 result.1.met.items result.1.news }
+    ensures goes { AreSeen seat telling.met.items telling.news
+        → (s : T) → Hears T.tells telling.news s telling.listener
+        → result.2 ≢ Sight.Stops → Hears T.tells result.1.news s result.1.listener }
+    ensures stops { AreSeen seat telling.met.items telling.news
+        → (s : T) → Hears T.tells telling.news s telling.listener
+        → result.2 ≡ Sight.Stops → IsStoppedBy T.tells result.1.news s result.1.listener }
 {
     let Looks::Every(every) = looks else {
         return (seat, telling, Sight::Ended);
@@ -85,12 +88,14 @@ fn look<B: Body, T: Listener>(
 ) -> Sight
     requires seat { Observes laid.now seat.old }
     ensures seat { LooksOn seat.old seat.new }
-    ensures seen { AreSeen seat.old.log seat.old.me.0.seen telling.old.cycles
-        → AreSeen seat.new.log seat.new.me.0.seen telling.new.cycles }
-    ensures goes { (s : T) → Hears T.tells telling.old.cycles s telling.old.listener
-        → result ≢ Sight.Stops → Hears T.tells telling.new.cycles s telling.new.listener }
-    ensures stops { (s : T) → Hears T.tells telling.old.cycles s telling.old.listener
-        → result ≡ Sight.Stops → IsStoppedBy T.tells telling.new.cycles s telling.new.listener }
+    ensures seen { AreSeen seat.old telling.old.met.items telling.old.news
+        → AreSeen seat.new telling.new.met.items telling.new.news }
+    ensures goes { AreSeen seat.old telling.old.met.items telling.old.news
+        → (s : T) → Hears T.tells telling.old.news s telling.old.listener
+        → result ≢ Sight.Stops → Hears T.tells telling.new.news s telling.new.listener }
+    ensures stops { AreSeen seat.old telling.old.met.items telling.old.news
+        → (s : T) → Hears T.tells telling.old.news s telling.old.listener
+        → result ≡ Sight.Stops → IsStoppedBy T.tells telling.new.news s telling.new.listener }
 {
     if laid.stopped(seat) != 0 {
         return Sight::Ended;
@@ -109,7 +114,7 @@ fn look<B: Body, T: Listener>(
     Sight::GoesOn
 }
 
-/// A look at one cell: where it is a task that has alarmed, its cycle is told, if it wasn't told yet.
+/// A look at one cell of which more may be to be told.
 fn look_at<B: Body, T: Listener>(
     alloc: Global,
     laid: &Laid<B>,
@@ -120,16 +125,83 @@ fn look_at<B: Body, T: Listener>(
     requires seat { Observes laid.now seat.old }
     requires cell { IsCellOf laid.now t.0 }
     ensures seat { LooksOn seat.old seat.new }
-    ensures seen { AreSeen seat.old.log seat.old.me.0.seen telling.old.cycles
-        → AreSeen seat.new.log seat.new.me.0.seen telling.new.cycles }
-    ensures goes { (s : T) → Hears T.tells telling.old.cycles s telling.old.listener
-        → result ≢ Ok Goes.Stop → Hears T.tells telling.new.cycles s telling.new.listener }
-    ensures stops { (s : T) → Hears T.tells telling.old.cycles s telling.old.listener
-        → result ≡ Ok Goes.Stop → IsStoppedBy T.tells telling.new.cycles s telling.new.listener }
+    ensures seen { AreSeen seat.old telling.old.met.items telling.old.news
+        → AreSeen seat.new telling.new.met.items telling.new.news }
+    ensures goes { AreSeen seat.old telling.old.met.items telling.old.news
+        → (s : T) → Hears T.tells telling.old.news s telling.old.listener
+        → result ≢ Ok Goes.Stop → Hears T.tells telling.new.news s telling.new.listener }
+    ensures stops { AreSeen seat.old telling.old.met.items telling.old.news
+        → (s : T) → Hears T.tells telling.old.news s telling.old.listener
+        → result ≡ Ok Goes.Stop → IsStoppedBy T.tells telling.new.news s telling.new.listener }
 {
     if telling.has_met(t) {
         return Ok(Goes::On);
     }
+    let tag = load_tag(laid, seat, t);
+    if tag == 0 {
+        return look_at_phase(alloc, laid, seat, t, telling);
+    }
+    if tag == 4 {
+        return look_at_broken(alloc, laid, seat, t, telling);
+    }
+    Ok(Goes::On)
+}
+
+/// TAG of a cell: where it isn't 0, the seat knows the cell.
+fn load_tag<B: Body>(laid: &Laid<B>, seat: &mut WSeat<B>, c: CellId) -> u64
+    requires seat { Observes laid.now seat.old }
+    requires cell { IsCellOf laid.now c.0 }
+    ensures seat { LooksOn seat.old seat.new }
+    ensures broken { result ≡ 4 → IsBrokenNow laid.now.cells c.0 seat.new.me.0 }
+{
+    laid.see_once(seat, c, Once::Tag)
+}
+
+/// A cell that is broken, of which this wasn't told yet: it is told.
+fn look_at_broken<B: Body, T: Listener>(
+    alloc: Global,
+    laid: &Laid<B>,
+    seat: &mut WSeat<B>,
+    c: CellId,
+    telling: &mut Telling<T>,
+) -> Result<Goes, Oom>
+    requires seat { Observes laid.now seat.old }
+    requires cell { IsCellOf laid.now c.0 }
+    requires broken { IsBrokenNow laid.now.cells c.0 seat.old.me.0 }
+    requires unmet { get_or telling.old.met.items c.0 false ≡ false }
+    ensures seat { LooksOn seat.old seat.new }
+    ensures seen { AreSeen seat.old telling.old.met.items telling.old.news
+        → AreSeen seat.new telling.new.met.items telling.new.news }
+    ensures goes { AreSeen seat.old telling.old.met.items telling.old.news
+        → (s : T) → Hears T.tells telling.old.news s telling.old.listener
+        → result ≢ Ok Goes.Stop → Hears T.tells telling.new.news s telling.new.listener }
+    ensures stops { AreSeen seat.old telling.old.met.items telling.old.news
+        → (s : T) → Hears T.tells telling.old.news s telling.old.listener
+        → result ≡ Ok Goes.Stop → IsStoppedBy T.tells telling.new.news s telling.new.listener }
+{
+    telling.meet(c)?;
+    let name = name_at(alloc, laid, seat, c)?;
+    telling.tell_broken(alloc, &name)
+}
+
+/// A look at PHASE: where it is that of a task that has alarmed, its cycle is told, if it wasn't told yet.
+fn look_at_phase<B: Body, T: Listener>(
+    alloc: Global,
+    laid: &Laid<B>,
+    seat: &mut WSeat<B>,
+    t: CellId,
+    telling: &mut Telling<T>,
+) -> Result<Goes, Oom>
+    requires seat { Observes laid.now seat.old }
+    requires cell { IsCellOf laid.now t.0 }
+    ensures seat { LooksOn seat.old seat.new }
+    ensures seen { AreSeen seat.old telling.old.met.items telling.old.news
+        → AreSeen seat.new telling.new.met.items telling.new.news }
+    ensures goes { (s : T) → Hears T.tells telling.old.news s telling.old.listener
+        → result ≢ Ok Goes.Stop → Hears T.tells telling.new.news s telling.new.listener }
+    ensures stops { (s : T) → Hears T.tells telling.old.news s telling.old.listener
+        → result ≡ Ok Goes.Stop → IsStoppedBy T.tells telling.new.news s telling.new.listener }
+{
     let phase = laid.see_phase(seat, t, None);
     if !has_alarmed(phase) {
         return Ok(Goes::On);

@@ -7,15 +7,15 @@ ghost use Rattle.tj_body.specs.Programs.{program_of};
 ghost use Rattle.tj_body.specs.Rounds.{IsFull, meaning};
 ghost use Rattle.tj_embed.specs.Limits.{AreLimits};
 ghost use Rattle.tj_mean.specs.Outcomes.{IsOutcome};
-ghost use Rattle.tj_mean.specs.declared.outcome.Link.{Link};
+ghost use Rattle.tj_told.specs.declared.news.News.{News};
 ghost use Rattle.tj_mean.specs.declared.outcome.Outcome.{Outcome};
 ghost use Rattle.tj_run.specs.Leaving.{Leaves};
 ghost use Rattle.tj_run.specs.Runs.{HasLots, RestsAt};
 ghost use Rattle.tj_run.specs.Workers.{IsFree, table_program};
 ghost use Rattle.tj_told.specs.Hearing.{Hears, IsStoppedBy};
 ghost use Rattle.tj_told.specs.Observers.{Observes};
-ghost use Rattle.tj_told.specs.ToldCycles.{AreTold};
-ghost use Rattle.tj_told.specs.ToldLinks.{AreSeen, AreSeenBy};
+ghost use Rattle.tj_told.specs.SeenNews.{AreSeen, AreSeenBy};
+ghost use Rattle.tj_told.specs.ToldNews.{AreTold};
 ghost use Rattle.std.specs.Prelude.{Option};
 ghost use Rattle.tj_log.specs.Shown.{SeatShown};
 ghost use Rattle.tj_words.specs.declared.record.Rec.{Rec};
@@ -39,7 +39,7 @@ use std::alloc::Global;
 use std::sync::Wait;
 use std::thread::{Parker, Threads, join};
 use tj_base::{CellId, Oom};
-use tj_body::Body;
+use tj_body::{Body, meaning_is_last};
 use tj_embed::Options;
 use tj_laws::every_moment;
 use tj_mean::Outcome;
@@ -51,9 +51,9 @@ use tj_words::{Laid, RestWords, WSeat};
 
 /// Runs a root and all that it forks, as `tj_embed::run_outcome` does, and tells the listener of each
 /// cycle of waits, as it happens: beside the workers an observer looks for tasks that have alarmed, as
-/// often as `looks` says. What it didn't see is told at rest. When the workers have ended, they ring a
-/// bell, so an observer that sleeps holds nobody up. The listener comes back. That the call returns
-/// isn't proved.
+/// often as `looks` says. A cycle that it didn't see is told at rest. A promise or a result that it
+/// sees broken is told, too. When the workers have ended, they ring a bell, so an observer that sleeps
+/// holds nobody up. The listener comes back. That the call returns isn't proved.
 pub fn run_told<B: Body, T: Listener, R: Wait + Threads + Sync>(
     rt: &R,
     alloc: Global,
@@ -70,21 +70,23 @@ pub fn run_told<B: Body, T: Listener, R: Wait + Threads + Sync>(
     // Where there is an outcome, the meaning isn't full.
     ensures fits { let p = program_of B.places B.awaits B.left B.asks B.then options.strict root
         in IfOk result.0 (λ _. ¬ IsFull p options.cells) }
-    // With an outcome, the calls that the listener has heard were made with the outcome's cycles,
-    // all of them, each once, and it answered On to each. So what is told early is never taken back.
-    ensures told { IfOk result.0 (λ outcome. (cycles : List (List Link))
-        × Hears T.tells cycles listener result.1 × AreTold cycles outcome.cycles) }
+    // With an outcome, the cycles that the listener has heard of are those of the outcome, all of
+    // them, each once; each cell that it was told to be broken is so by the outcome, and was told
+    // once; and it answered On to each call. So what is told early is never taken back.
+    ensures told { IfOk result.0 (λ outcome. (told : List News)
+        × Hears T.tells told listener result.1 × AreTold told outcome) }
     // Stopped comes only where it answered Stop to the last call.
-    ensures stopped { result.0 ≡ Err ToldFault.Stopped → (cycles : List (List Link))
-        × IsStoppedBy T.tells cycles listener result.1 }
-    // Else it answered On to each call, and no cycle was told twice.
-    ensures heard { result.0 ≢ Err ToldFault.Stopped → (cycles : List (List Link))
-        × Hears T.tells cycles listener result.1 }
+    ensures stopped { result.0 ≡ Err ToldFault.Stopped → (told : List News)
+        × IsStoppedBy T.tells told listener result.1 }
+    // Else it answered On to each call, and nothing was told twice.
+    ensures heard { result.0 ≢ Err ToldFault.Stopped → (told : List News)
+        × Hears T.tells told listener result.1 }
     // Full comes only where the meaning is full.
     ensures full { let p = program_of B.places B.awaits B.left B.asks B.then options.strict root
         in result.0 ≡ Err ToldFault.Full → IsFull p options.cells }
 {
     every_moment::<B>();
+    meaning_is_last::<B>();
     let telling = Telling::new(alloc, listener);
     let (rest, telling) = run_beside::<B, NewestFirstPool, OpenGate, T, R>(
         rt, alloc, root, options, &OpenGate, looks, telling,
@@ -118,14 +120,14 @@ fn run_beside<B: Body, P: Pool, G: Gate, T: Listener, R: Wait + Threads + Sync>(
     requires root { IsFresh B.places B.awaits B.left 1 root }
     ensures rest { IfOk result.0 (RestsAt
         (program_of B.places B.awaits B.left B.asks B.then) root options.cells options.strict) }
-    ensures seen { telling.cycles ≡ [] → IfOk result.0 (λ rest.
+    ensures seen { telling.news ≡ [] → IfOk result.0 (λ rest.
         (seat : SeatShown (Option (Rec B)) (View B)) × EndsRun (program_of B.places B.awaits B.left
         B.asks B.then) options.cells options.strict root seat rest.cells rest.records
-        × AreSeenBy seat.took seat.me.0.seen result.1.cycles) }
-    ensures goes { (s : T) → Hears T.tells telling.cycles s telling.listener
-        → result.0 ≢ Err ToldFault.Stopped → Hears T.tells result.1.cycles s result.1.listener }
-    ensures stops { (s : T) → Hears T.tells telling.cycles s telling.listener
-        → result.0 ≡ Err ToldFault.Stopped → IsStoppedBy T.tells result.1.cycles s result.1.listener }
+        × AreSeenBy seat result.1.news) }
+    ensures goes { telling.news ≡ [] → (s : T) → Hears T.tells telling.news s telling.listener
+        → result.0 ≢ Err ToldFault.Stopped → Hears T.tells result.1.news s result.1.listener }
+    ensures stops { telling.news ≡ [] → (s : T) → Hears T.tells telling.news s telling.listener
+        → result.0 ≡ Err ToldFault.Stopped → IsStoppedBy T.tells result.1.news s result.1.listener }
     ensures full { result.0 ≡ Err ToldFault.Full → IsFull
         (program_of B.places B.awaits B.left B.asks B.then options.strict root) options.cells }
 {
@@ -221,12 +223,11 @@ fn work_told<B: Body, P: Pool, G: Gate, T: Listener, R: Wait + Threads + Sync>(
     ensures table { result.0.table_id ≡ seat.table_id }
     ensures left { Leaves (program_of B.places B.awaits B.left B.asks B.then) result.1 seat.me.0
         result.0.me }
-    ensures seen { telling.cycles ≡ [] → result.1 ≡ Left.Rested
-        → AreSeenBy result.0.took result.0.me.0.seen result.2.cycles }
-    ensures goes { (s : T) → Hears T.tells telling.cycles s telling.listener
-        → result.3 ≢ Sight.Stops → Hears T.tells result.2.cycles s result.2.listener }
-    ensures stops { (s : T) → Hears T.tells telling.cycles s telling.listener
-        → result.3 ≡ Sight.Stops → IsStoppedBy T.tells result.2.cycles s result.2.listener }
+    ensures seen { telling.news ≡ [] → result.1 ≡ Left.Rested → AreSeenBy result.0 result.2.news }
+    ensures goes { telling.news ≡ [] → (s : T) → Hears T.tells telling.news s telling.listener
+        → result.3 ≢ Sight.Stops → Hears T.tells result.2.news s result.2.listener }
+    ensures stops { telling.news ≡ [] → (s : T) → Hears T.tells telling.news s telling.listener
+        → result.3 ≡ Sight.Stops → IsStoppedBy T.tells result.2.news s result.2.listener }
 {
     let (mine, theirs) = laid.split(seat);
     let bell = Parker::new();
@@ -235,11 +236,11 @@ fn work_told<B: Body, P: Pool, G: Gate, T: Listener, R: Wait + Threads + Sync>(
         requires { Observes laid.now theirs }
         ensures { (result.0.table_id ≡ theirs.table_id) × IsIdle result.0.me.0
             × (result.0.me.1 ≡ []) × (result.0.me.0.lot ≡ theirs.me.0.lot)
-            × (telling.cycles ≡ [] → AreSeen result.0.log result.0.me.0.seen result.1.cycles)
-            × ((s : T) → Hears T.tells telling.cycles s telling.listener
-            → result.2 ≢ Sight.Stops → Hears T.tells result.1.cycles s result.1.listener)
-            × ((s : T) → Hears T.tells telling.cycles s telling.listener
-            → result.2 ≡ Sight.Stops → IsStoppedBy T.tells result.1.cycles s result.1.listener) }
+            × (telling.news ≡ [] → AreSeen result.0 result.1.met.items result.1.news)
+            × (telling.news ≡ [] → (s : T) → Hears T.tells telling.news s telling.listener
+            → result.2 ≢ Sight.Stops → Hears T.tells result.1.news s result.1.listener)
+            × (telling.news ≡ [] → (s : T) → Hears T.tells telling.news s telling.listener
+            → result.2 ≡ Sight.Stops → IsStoppedBy T.tells result.1.news s result.1.listener) }
     { observe(rt, alloc, laid, theirs, looks, bell, telling) };
     let working = move || -> (WSeat<B>, Left)
         requires { IsSync R.row × IsSync G.row × IsSend B.row × IsSend P.row

@@ -2,11 +2,11 @@
 ghost use Rattle.std.specs.Prelude.{◌≡◌, ◌≢◌, List, IfOk, Err};
 ghost use Rattle.tj_embed.specs.Limits.{AreLimits};
 ghost use Rattle.tj_embed.specs.ScriptRuns.{IsOutcomeOfScript, NeedsMore};
-ghost use Rattle.tj_mean.specs.declared.outcome.Link.{Link};
 ghost use Rattle.tj_syntax.specs.ScriptTexts.{IsSomeScript};
 ghost use Rattle.tj_syntax.specs.View as shown;
 ghost use Rattle.tj_told.specs.Hearing.{Hears, IsStoppedBy};
-ghost use Rattle.tj_told.specs.ToldCycles.{AreTold};
+ghost use Rattle.tj_told.specs.ToldNews.{AreTold};
+ghost use Rattle.tj_told.specs.declared.news.News.{News};
 
 use crate::fault::ToldFault;
 use crate::listener::Listener;
@@ -22,7 +22,7 @@ use tj_mean::Outcome;
 use tj_syntax::Script;
 
 /// Runs a script, as `tj_embed::run_script` does, answers its outcome, and tells the listener of each
-/// cycle of waits, as `run_told` does. That the call returns isn't proved.
+/// cycle of waits and of what is broken, as `run_told` does. That the call returns isn't proved.
 pub fn run_script_told<T: Listener, R: Wait + Threads + Sync>(
     rt: &R,
     alloc: Global,
@@ -35,16 +35,17 @@ pub fn run_script_told<T: Listener, R: Wait + Threads + Sync>(
     requires script { IsSomeScript (shown.script script.now) }
     // The outcome is that of the meaning of the script with these options, which isn't full.
     ensures outcome { IfOk result.0 (IsOutcomeOfScript (shown.script script.now) options) }
-    // With an outcome, the calls that the listener has heard were made with the outcome's cycles,
-    // all of them, each once, and it answered On to each.
-    ensures told { IfOk result.0 (λ outcome. (cycles : List (List Link))
-        × Hears T.tells cycles listener result.1 × AreTold cycles outcome.cycles) }
+    // With an outcome, the cycles that the listener has heard of are those of the outcome, all of
+    // them, each once; each cell that it was told to be broken is so by the outcome, and was told
+    // once; and it answered On to each call.
+    ensures told { IfOk result.0 (λ outcome. (told : List News)
+        × Hears T.tells told listener result.1 × AreTold told outcome) }
     // Stopped comes only where it answered Stop to the last call.
-    ensures stopped { result.0 ≡ Err ToldFault.Stopped → (cycles : List (List Link))
-        × IsStoppedBy T.tells cycles listener result.1 }
-    // Else it answered On to each call, and no cycle was told twice.
-    ensures heard { result.0 ≢ Err ToldFault.Stopped → (cycles : List (List Link))
-        × Hears T.tells cycles listener result.1 }
+    ensures stopped { result.0 ≡ Err ToldFault.Stopped → (told : List News)
+        × IsStoppedBy T.tells told listener result.1 }
+    // Else it answered On to each call, and nothing was told twice.
+    ensures heard { result.0 ≢ Err ToldFault.Stopped → (told : List News)
+        × Hears T.tells told listener result.1 }
     // Full comes only where the script needs more cells.
     ensures full { result.0 ≡ Err ToldFault.Full → NeedsMore (shown.script script.now) options }
 {

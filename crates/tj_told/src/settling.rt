@@ -3,7 +3,10 @@ ghost use Rattle.std.specs.Prelude.{◌≡◌, ◌≢◌, ◌⊎◌, List, Err, 
 ghost use Rattle.tj_body.specs.Points.{IsIn};
 ghost use Rattle.tj_mean.specs.declared.outcome.Link.{Link};
 ghost use Rattle.tj_told.specs.Hearing.{Hears, IsStoppedBy};
+ghost use Rattle.tj_told.specs.ToldNews.{IsCycleOf};
 ghost use Rattle.tj_told.specs.declared.fault.ToldFault.TheVariants as fault;
+ghost use Rattle.tj_told.specs.declared.news.News.{News};
+ghost use Rattle.tj_told.specs.declared.news.News.TheVariants as told;
 
 use crate::fault::ToldFault;
 use crate::listener::{Goes, Listener};
@@ -17,14 +20,14 @@ pub(crate) fn tell_rest<T: Listener>(
     cycles: &CycleList,
     telling: &mut Telling<T>,
 ) -> Result<(), ToldFault>
-    ensures only { IfOk result (λ _. (c : List Link) → IsIn c telling.new.cycles
-        → IsIn c telling.old.cycles ⊎ IsIn c cycles.now) }
+    ensures only { IfOk result (λ _. (n : News) → IsIn n telling.new.news
+        → IsIn n telling.old.news ⊎ IsCycleOf cycles.now n) }
     ensures all { IfOk result (λ _. (c : List Link) → IsIn c cycles.now
-        → IsIn c telling.new.cycles) }
-    ensures goes { (s : T) → Hears T.tells telling.old.cycles s telling.old.listener
-        → result ≢ Err fault.Stopped → Hears T.tells telling.new.cycles s telling.new.listener }
-    ensures stops { (s : T) → Hears T.tells telling.old.cycles s telling.old.listener
-        → result ≡ Err fault.Stopped → IsStoppedBy T.tells telling.new.cycles s telling.new.listener }
+        → IsIn (told.Cycle c) telling.new.news) }
+    ensures goes { (s : T) → Hears T.tells telling.old.news s telling.old.listener
+        → result ≢ Err fault.Stopped → Hears T.tells telling.new.news s telling.new.listener }
+    ensures stops { (s : T) → Hears T.tells telling.old.news s telling.old.listener
+        → result ≡ Err fault.Stopped → IsStoppedBy T.tells telling.new.news s telling.new.listener }
     ensures full { result ≢ Err fault.Full }
 {
     for cycle in cycles.items() {

@@ -1,22 +1,24 @@
 //! What is told, with what was told already.
 ghost use Rattle.tj_body.specs.Points.{IsIn};
-ghost use Rattle.tj_mean.specs.declared.outcome.Link.{Link};
-ghost use Rattle.std.specs.Prelude.{◌≡◌, ◌≢◌, ◌⊎◌, List, ◌++◌, [], ◌∷◌, Ok, IfOk, IfErr};
+ghost use Rattle.std.specs.Prelude.{◌≡◌, ◌≢◌, ◌⊎◌, ◌++◌, ℕ, [], ◌∷◌, true, false, get_or};
+ghost use Rattle.std.specs.Prelude.{Ok, IfOk, IfErr};
 ghost use Rattle.std.specs.List.{list_any};
 ghost use Rattle.tj_told.specs.Hearing.{Hears, IsStoppedBy};
-ghost use Rattle.tj_told.specs.ToldCycles.{AddsTo, same_cycle};
+ghost use Rattle.tj_told.specs.ToldNews.{AddsTo, tells_cycle};
+ghost use Rattle.tj_told.specs.declared.news.News.TheVariants as told;
 
 use crate::copies::{copy_of, is_among};
 use crate::listener::{Goes, Listener};
+use crate::news::{News, NewsList};
 use std::alloc::Global;
-use tj_base::{CellId, Items, Oom};
-use tj_mean::{CycleList, LinkList};
+use tj_base::{CellId, Items, Name, Oom};
+use tj_mean::LinkList;
 
-/// A listener with the cycles that it was told, and the tasks of which a cycle was looked for.
+/// A listener with what it was told, and the cells of which nothing more is to be told.
 #[derive(Drop)]
 pub(crate) struct Telling<T> {
     pub(crate) listener: T,
-    pub(crate) cycles: CycleList,
+    pub(crate) news: NewsList,
     pub(crate) met: Vec<bool>,
 }
 
@@ -24,31 +26,33 @@ impl<T: Listener> Telling<T> {
     /// Nothing was told yet.
     pub(crate) fn new(alloc: Global, listener: T) -> Telling<T>
         ensures listener { result.listener ≡ listener }
-        ensures cycles { result.cycles ≡ [] }
+        ensures news { result.news ≡ [] }
     {
         Telling {
             listener,
-            cycles: Items::of(Vec::new(alloc)),
+            news: Items::of(Vec::new(alloc)),
             met: Vec::new(alloc),
         }
     }
 
     /// Whether this cycle was told.
     pub(crate) fn has(&self, links: &LinkList) -> bool
-        ensures { result ≡ list_any (same_cycle links.now) self.now.cycles }
+        ensures { result ≡ list_any (tells_cycle links.now) self.now.news }
     {
-        is_among(links, self.cycles.items())
+        is_among(links, self.news.items())
     }
 
     /// Tells a cycle that wasn't told yet.
     pub(crate) fn tell_new(&mut self, alloc: Global, links: &LinkList) -> Result<Goes, Oom>
-        ensures adds { IfOk result (λ _. AddsTo links.now self.old.cycles self.new.cycles) }
-        ensures only { (d : List Link) → IsIn d self.new.cycles
-            → (d ≡ links.now) ⊎ IsIn d self.old.cycles }
-        ensures goes { (s : T) → Hears T.tells self.old.cycles s self.old.listener
-            → result ≢ Ok Goes.Stop → Hears T.tells self.new.cycles s self.new.listener }
-        ensures stops { (s : T) → Hears T.tells self.old.cycles s self.old.listener
-            → result ≡ Ok Goes.Stop → IsStoppedBy T.tells self.new.cycles s self.new.listener }
+        ensures adds { IfOk result (λ _. AddsTo (told.Cycle links.now) self.old.news
+            self.new.news) }
+        ensures only { (d : News) → IsIn d self.new.news
+            → (d ≡ told.Cycle links.now) ⊎ IsIn d self.old.news }
+        ensures met { self.new.met ≡ self.old.met }
+        ensures goes { (s : T) → Hears T.tells self.old.news s self.old.listener
+            → result ≢ Ok Goes.Stop → Hears T.tells self.new.news s self.new.listener }
+        ensures stops { (s : T) → Hears T.tells self.old.news s self.old.listener
+            → result ≡ Ok Goes.Stop → IsStoppedBy T.tells self.new.news s self.new.listener }
     {
         if self.has(links) {
             return Ok(Goes::On);
@@ -58,28 +62,51 @@ impl<T: Listener> Telling<T> {
 
     /// Tells a cycle.
     fn tell(&mut self, alloc: Global, links: &LinkList) -> Result<Goes, Oom>
-        ensures cycles { IfOk result (λ _. self.new.cycles ≡ self.old.cycles ++ links.now ∷ []) }
-        ensures tells { IfOk result (λ goes. T.tells self.old.listener links.now goes self.new.listener) }
+        ensures news { IfOk result (λ _. self.new.news
+            ≡ self.old.news ++ told.Cycle links.now ∷ []) }
+        ensures tells { IfOk result (λ goes. T.tells self.old.listener (told.Cycle links.now) goes
+            self.new.listener) }
         ensures listener { IfErr result (λ _. self.new.listener ≡ self.old.listener) }
-        ensures same { IfErr result (λ _. self.new.cycles ≡ self.old.cycles) }
+        ensures same { IfErr result (λ _. self.new.news ≡ self.old.news) }
+        ensures met { self.new.met ≡ self.old.met }
     {
         let copy = copy_of(alloc, links)?;
-        self.cycles.push(copy)?;
+        self.news.push(News::Cycle(copy))?;
         Ok(self.listener.cycle(links))
     }
 
-    /// Whether a cycle of this task was looked for.
-    pub(crate) fn has_met(&self, t: CellId) -> bool {
+    /// Tells that a cell is broken.
+    pub(crate) fn tell_broken(&mut self, alloc: Global, name: &Name) -> Result<Goes, Oom>
+        ensures news { IfOk result (λ _. self.new.news
+            ≡ self.old.news ++ told.Broken name.now ∷ []) }
+        ensures tells { IfOk result (λ goes. T.tells self.old.listener (told.Broken name.now) goes
+            self.new.listener) }
+        ensures listener { IfErr result (λ _. self.new.listener ≡ self.old.listener) }
+        ensures same { IfErr result (λ _. self.new.news ≡ self.old.news) }
+        ensures met { self.new.met ≡ self.old.met }
+    {
+        let copy = name.copy(alloc)?;
+        self.news.push(News::Broken(copy))?;
+        Ok(self.listener.broken(name))
+    }
+
+    /// Whether this cell was met.
+    pub(crate) fn has_met(&self, t: CellId) -> bool
+        ensures { result ≡ get_or self.now.met.items t.0 false }
+    {
         match self.met.as_slice().get(t.0 as usize) {
             Some(met) => *met,
             None => false,
         }
     }
 
-    /// A cycle of this task was looked for.
+    /// This cell is met, as all that were.
     pub(crate) fn meet(&mut self, t: CellId) -> Result<(), Oom>
         ensures listener { self.new.listener ≡ self.old.listener }
-        ensures cycles { self.new.cycles ≡ self.old.cycles }
+        ensures news { self.new.news ≡ self.old.news }
+        ensures met { IfOk result (λ _. get_or self.new.met.items t.0 false ≡ true) }
+        ensures kept { (c : ℕ) → get_or self.old.met.items c false ≡ true
+            → get_or self.new.met.items c false ≡ true }
     {
         let missing = (t.0 as usize)
             .saturating_add(1)
@@ -87,9 +114,7 @@ impl<T: Listener> Telling<T> {
         for _i in 0..missing {
             self.met.push(false)?;
         }
-        if let Some(met) = self.met.as_mut_slice().get_mut(t.0 as usize) {
-            *met = true;
-        }
+        self.met[t.0 as usize] = true;
         Ok(())
     }
 }

@@ -1,1 +1,1 @@
-pub mod KeptCycles
+pub mod KeptNews

@@ -2,14 +2,14 @@
 use std::alloc::Global;
 use std::sync::Wait;
 use std::thread::Threads;
-use tj_base::Oom;
+use tj_base::{Name, Oom};
 use tj_embed::Options;
 use tj_examples::Knot;
 use tj_mean::LinkList;
 use tj_task::{Replay, TaskBody};
 use tj_told::{Goes, Listener, Looks, run_told};
 
-/// Writes down each cycle that it is told, and stops the run where memory is lacking.
+/// Writes down what it is told, and stops the run where memory is lacking.
 #[derive(Drop)]
 struct Writes {
     alloc: Global,
@@ -28,11 +28,25 @@ impl Writes {
         self.text.extend_from_slice(b"\n")?;
         Ok(())
     }
+
+    fn add_broken(&mut self, name: &Name) -> Result<(), Oom> {
+        self.text.extend_from_slice(b"broken ")?;
+        name.text_into(self.alloc, &mut self.text)?;
+        self.text.extend_from_slice(b"\n")?;
+        Ok(())
+    }
 }
 
 impl Listener for Writes {
     fn cycle(&mut self, links: &LinkList) -> Goes {
         match self.add(links) {
+            Ok(()) => Goes::On,
+            Err(Oom) => Goes::Stop,
+        }
+    }
+
+    fn broken(&mut self, name: &Name) -> Goes {
+        match self.add_broken(name) {
             Ok(()) => Goes::On,
             Err(Oom) => Goes::Stop,
         }

@@ -13,7 +13,7 @@ mod told;
 
 use bodies::handed_over;
 use channels::two_receivers;
-use kept::kept_circle;
+use kept::{kept_broken, kept_circle};
 use knots::told_knot;
 use native::{fibonacci, in_a_knot, sum};
 use rows::handed_to_a_child;
@@ -25,7 +25,7 @@ use std::thread::Threads;
 use tj_ports::{StdSink, put_all};
 
 /// What all of them give, where memory lasts.
-fn texts<R: Wait + Threads + Sync + AllocGlobal>(rt: &R) -> Option<[Vec<u8>; 12]> {
+fn texts<R: Wait + Threads + Sync + AllocGlobal>(rt: &R) -> Option<[Vec<u8>; 13]> {
     Some([
         which_owe(rt)?,
         on_a_cycle(rt)?,
@@ -38,6 +38,7 @@ fn texts<R: Wait + Threads + Sync + AllocGlobal>(rt: &R) -> Option<[Vec<u8>; 12]
         sum(rt)?,
         told_knot(rt)?,
         kept_circle(rt)?,
+        kept_broken(rt)?,
         planned_and_run(rt)?,
     ])
 }

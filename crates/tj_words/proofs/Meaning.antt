@@ -8,5 +8,6 @@ pub mod ClosedWords
 pub mod RestingCells
 pub mod RestingMeaning
 pub mod MeantCycles
+pub mod ClosedValues
 pub mod Rested
 pub mod EndedRuns

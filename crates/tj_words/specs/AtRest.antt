@@ -5,3 +5,4 @@ pub mod RestMeaning
 pub mod RestShown
 pub mod RestingSeats
 pub mod EndedRuns
+pub mod RestValues

@@ -165,11 +165,11 @@ impl<B: Body> Laid<B> {
         requires may { MayRead f c.0 seat.old.me.0 }
         // The seat is the same one of the same table, with the same slots.
         ensures seat { IsSameSeat seat.old seat.new }
-        // After a load of TAG as another number than 0 the seat knows what has become of the cell:
-        // an entry that the cell's name has in some round, and the same one as before, if it knew
-        // one. TAG is 0 only if it knew none. If it knew one, BITS says what this entry says. After
-        // the load of a word of the tree of forks the seat knows the word, and a tree that has all
-        // nodes that it has seen.
+        // After a load of TAG as another number than 0 the seat knows the cell and what has become
+        // of it: an entry that the cell's name has in some round, and the same one as before, if it
+        // knew one. TAG is 0 only if it knew none. If it knew one, BITS says what this entry says.
+        // After the load of a word of the tree of forks the seat knows the word, and a tree that has
+        // all nodes that it has seen.
         ensures sees { SeesOnce (program_of B.places B.awaits B.left B.asks B.then)
             self.now.cells f c.0 result seat.old.me.0 seat.new.me.0 }
         // The seat's log is longer by one entry: this word of the cell was loaded, and this number

@@ -1,5 +1,5 @@
 //! Rest: a table whose last seat has come back is closed. Its words and records stay as they are.
-ghost use Rattle.std.specs.Prelude.{◌≡◌, ◌↔◌, ◌<◌, ◌≤◌, length, get_or, vec_len, vec_capacity, None};
+ghost use Rattle.std.specs.Prelude.{◌≡◌, ◌↔◌, ◌<◌, ◌≤◌, ◌^◌, length, get_or, vec_len, vec_capacity, None};
 ghost use Rattle.std.specs.Option.{option_map};
 ghost use Rattle.tj_body.specs.Programs.{program_of};
 ghost use Rattle.tj_words.specs.AtRest.RestingSeats.{MayRest};
@@ -7,16 +7,21 @@ ghost use Rattle.tj_words.specs.AtRest.ClosedCells.{AreAlarmsOnCycles, AreAtRest
 ghost use Rattle.tj_words.specs.AtRest.ClosedCells.{IsPromise, IsShown};
 ghost use Rattle.tj_words.specs.AtRest.EndedRuns.{EndsRun};
 ghost use Rattle.tj_words.specs.AtRest.RestMeaning.{HaveMeaning, AreCyclesOfMeaningAlarmed};
+ghost use Rattle.tj_words.specs.AtRest.RestValues.{AreValuesOfMeaning, RefersBelow, value_shown};
 ghost use Rattle.tj_words.specs.AtRest.ShownCells.{AreCellsOf, AreTableWords, cell_of};
+ghost use Rattle.tj_words.specs.declared.offsets.Once.TheVariants.{Tag, Bits};
+ghost use Rattle.tj_words.specs.Words.Offsets.{word, once_at};
+ghost use Rattle.tj_words.specs.Words.Values.{NamesCell};
 ghost use Rattle.std.specs.Slots.{IsFull, slots_items};
 
 use crate::closed::{Closed, RestCell};
 use crate::offsets::{COUNT, Once, once_at, own_at, phase_at};
 use crate::owner::owner_of_word;
 use crate::phase::Phase;
-use crate::record::Rec;
+use crate::record::{Fill, Rec};
 use crate::records::Records;
 use crate::table::{Laid, WSeat};
+use crate::value::value_of_words;
 use std::alloc::Global;
 use std::marker::Model;
 use std::mem::forget;
@@ -38,12 +43,14 @@ pub struct RestWords<B: Body> {
 impl<B: Body> Model for RestWords<B> {
     ghost use Rattle.std.specs.Prelude.{◌≤◌, length};
     ghost use Rattle.tj_words.specs.AtRest.RestShown.{AreSlots, RestShown};
+    ghost use Rattle.tj_words.specs.AtRest.RestValues.{AreClosedWords};
     ghost use Rattle.std.specs.Slots.{slots_items};
 
     ghost Value = { RestShown B };
 
     ghost view = { λ w. record {
       cells = w.closed;
+      words = slots_items w.records.table.words;
       records = slots_items w.records.table.slots;
       limit = w.limit;
       root = w.root.value;
@@ -51,7 +58,8 @@ impl<B: Body> Model for RestWords<B> {
     } };
 
     ghost invariant = { λ w. AreSlots w.closed (slots_items w.records.table.slots)
-        × (length w.closed ≤ w.limit) };
+        × (length w.closed ≤ w.limit)
+        × AreClosedWords w.limit (length w.closed) (slots_items w.records.table.words) };
 }
 
 impl<B: Body> RestWords<B> {
@@ -72,6 +80,19 @@ impl<B: Body> RestWords<B> {
         ensures { IsShown self.now.cells c.0 result }
     {
         self.closed.cell(c)
+    }
+
+    /// The value of a cell, a promise or a task's result: its number, or the cell to which it refers.
+    /// There is none where nothing has become of the cell, or it is broken; its TAG tells which.
+    pub fn value(&self, c: CellId) -> Option<Fill>
+        requires { c.0 < length self.now.cells }
+        // It is what TAG and BITS of the cell stand for. `Laid::rest` says that this is the value
+        // which the meaning has for the cell's name.
+        ensures value { result ≡ value_shown self.now.words c.0 }
+        // A cell to which it refers is one of those that were drawn.
+        ensures refers { RefersBelow (length self.now.cells) result }
+    {
+        show_value(&self.records.table, self.limit, c)
     }
 
     /// The record of a task, and nothing for a promise.
@@ -145,6 +166,10 @@ impl<B: Body> Laid<B> {
         ensures meant_cycles { AreCyclesOfMeaningAlarmed (program_of B.places B.awaits B.left B.asks
             B.then self.strict self.root.value) self.cells result.cells }
 
+        // The value of each cell is that of the meaning: what the last round has for its name.
+        ensures values { AreValuesOfMeaning (program_of B.places B.awaits B.left B.asks B.then
+            self.strict self.root.value) self.cells result.cells result.words }
+
         // The words and the records are the end of a run of the table from the first state: by step
         // calls, each of a seat of which what it asks is so, by splits, and by merges of idle
         // seats. The last seat was one of that table.
@@ -211,4 +236,22 @@ fn show_cell<B: Body>(
         parent: owner_of_word(table.word(once_at(c, Once::Parent))).unwrap_or(CellId(0)),
         kid: table.word(once_at(c, Once::Kid)) as u32,
     }
+}
+
+/// What TAG and BITS of a cell stand for.
+fn show_value<B: Body>(
+    table: &atomic_table::Closed<Option<Rec<B>>, Global>,
+    cells: u32,
+    c: CellId,
+) -> Option<Fill>
+    requires full { IsFull table.now.words }
+    requires words { AreTableWords cells (slots_items table.now.words) }
+    requires cell { c.0 < cells }
+    requires small { NamesCell (word (slots_items table.now.words) (once_at c.0 Tag))
+        → word (slots_items table.now.words) (once_at c.0 Bits) < 2 ^ 32 }
+    ensures { result ≡ value_shown (slots_items table.now.words) c.0 }
+{
+    let tag = table.word(once_at(c, Once::Tag));
+    let bits = table.word(once_at(c, Once::Bits));
+    value_of_words(tag, bits)
 }

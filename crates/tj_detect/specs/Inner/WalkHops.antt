@@ -1,5 +1,5 @@
 -- The parts of a walk: what the reads of one owner come to, and what all reads from the count of the cells on.
-use Rattle.std.specs.Prelude.{◌≡◌, ◌≢◌, ℕ, ◌+◌, ◌*◌, ◌<◌, ◌≤◌, true, [], Some, None}
+use Rattle.std.specs.Prelude.{◌≡◌, ◌≢◌, ◌⊎◌, ℕ, ◌+◌, ◌*◌, ◌<◌, ◌≤◌, true, [], ◌∷◌, Option, Some, None}
 use Rattle.tj_events.specs.declared.walk.Way.{Way}
 use Rattle.tj_events.specs.declared.walk.Walker.{Walker}
 use Rattle.tj_events.specs.Events.{owner_read, wait_found, owner_found, MayCount, MaySettle}
@@ -7,6 +7,9 @@ use Rattle.tj_words.specs.declared.view.Custody.{Custody}
 use Rattle.tj_words.specs.declared.view.Does.TheVariants as does
 use Rattle.tj_words.specs.declared.view.View.{View}
 use Rattle.tj_words.specs.LawParts.Holding.{held_in}
+use Rattle.tj_words.specs.Steps.StepEvents.{wait_in}
+use Rattle.tj_words.specs.declared.phase.Phase.{Phase}
+use Rattle.tj_detect.specs.BlockLogs.{EndsAtOwner, Makes, PassesOwner, Seat, owner_seen, phase_seen}
 use Rattle.tj_detect.specs.Blocks.{IsLoad, IsWalkOf, EndsWith, does_after, tokens_given, doing}
 use Rattle.tj_detect.specs.declared.blocking.Verdict.{Verdict}
 use Rattle.tj_detect.specs.declared.blocking.Verdict.TheVariants.{Skipped}
@@ -78,3 +81,18 @@ module _ {B : Type 0} where
     pub few_steps : steps ≤ 3 * walker.bound + 1
     pub counted : new ≡ old + steps
     pub view : w ≡ doing t (does_after verdict q way walker) steps (tokens_given verdict) v
+
+  -- the loads of OWN of p, of PHASE of its owner u and of OWN again, after OWN named u, came to this
+  abbrev pub MakesSecondLook : ℕ → ℕ → Hop → Seat B → Seat B → Type 0
+  MakesSecondLook p u (Next next) old new = (was : Phase) × (wait_in was ≡ Some next.0)
+      × Makes (owner_seen p (Some u) ∷ phase_seen u was ∷ []) old new
+  MakesSecondLook p u Ended old new = ((was : Phase) × (wait_in was ≡ None) × Makes (phase_seen u was ∷ []) old new)
+      ⊎ ((next : ℕ) × (was : Phase) × (again : Option ℕ) × (wait_in was ≡ Some next) × (again ≢ Some u)
+      × Makes (owner_seen p again ∷ phase_seen u was ∷ []) old new)
+  MakesSecondLook p u Own old new = ⊥
+
+  -- the loads of a walk of t at its cell p came to this
+  abbrev pub MakesHop : ℕ → ℕ → Hop → Seat B → Seat B → Type 0
+  MakesHop t p (Next next) old new = PassesOwner t p next.0 old new
+  MakesHop t p Ended old new = EndsAtOwner t p old new
+  MakesHop t p Own old new = Makes (owner_seen p (Some t) ∷ []) old new

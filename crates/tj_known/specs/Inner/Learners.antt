@@ -1,6 +1,6 @@
 -- The tasks whose acts are worked off: what each knows by then, which of them have begun, and which can go on.
 use Rattle.std.specs.Prelude.{◌≡◌, ◌↔◌, ◌⊎◌, ℕ, ◌+◌, ◌-◌, ◌<◌, ◌≤◌, Bool, true, false, cond, not}
-use Rattle.std.specs.Prelude.{◌&&◌, ◌||◌, nat_eq, nat_lt, ◌++◌, ◌∷◌, replicate}
+use Rattle.std.specs.Prelude.{◌&&◌, ◌||◌, nat_eq, nat_lt, ◌++◌, ◌∷◌}
 use Rattle.std.specs.Prelude.{List, [], length, Option, Some, None, slice_get, slice_index_or}
 use Rattle.std.specs.List.{All, sum_by}
 use Rattle.std.specs.Option.{option_map_or}
@@ -32,7 +32,6 @@ pub record IsWorkedOff (x y : Learner) (mark : Bool) : Type 0 where
   pub steps : y.steps.items ≡ x.steps.items
   pub begun : y.begun ≡ x.begun
   pub marks : y.marks.items ≡ x.marks.items ++ mark ∷ []
-  pub wide : length y.knows.items ≡ length x.knows.items
 
 -- whether all its acts are worked off
 abbrev pub is_done : Learner → Bool
@@ -89,18 +88,17 @@ module _ (learners : List Learner) where
     pub is_worked : earlier < worked parent
 
 module _ (lines : List ActLine) where
-  -- the task of a line, of which nothing is worked off
+  -- the task of a line, of which nothing is worked off, and which knows nothing
   pub record IsNew (l : ActLine) (x : Learner) : Type 0 where
     pub steps : AreSteps lines l.acts x.steps.items
     pub begun : (x.begun ≡ true) ↔ (l.name ≡ [])
     pub unmarked : x.marks.items ≡ []
-    pub nothing : x.knows.items ≡ replicate (length lines) false
+    pub nothing : x.knows.items ≡ []
 
   -- What holds of the task of a line: its steps are its acts, what its row has is what it knows after the acts that
   -- are worked off, and each join among these is marked as the task knew the joined one or not.
   pub record IsLearner (l : ActLine) (x : Learner) : Type 0 where
     pub steps : AreSteps lines l.acts x.steps.items
-    pub wide : length x.knows.items ≡ length lines
     pub few : worked x ≤ length x.steps.items
     pub unbegun : x.begun ≡ false → x.marks.items ≡ []
     pub knowledge : x.begun ≡ true → (i : ℕ) (u : Name) → HasName lines i u

@@ -12,6 +12,8 @@ use Rattle.tj_words.specs.Words.Lists.{All}
 use Rattle.tj_words.specs.LawParts.NamedCells.{finish_cells}
 use Rattle.tj_words.specs.LawParts.Telling.{FinishSays}
 use Rattle.tj_cells.specs.FilledCells.{became}
+use Rattle.tj_cells.specs.CallLogs.{MakesClosed, Seat}
+use Rattle.tj_park.specs.EndLogs.{closed_with}
 use Rattle.tj_park.specs.Endings.{result_of}
 use Rattle.tj_park.specs.Inner.Breaks.{OwnsStill}
 
@@ -38,3 +40,7 @@ module _ {B : Type 0} where
   abbrev pub ClosesResult : ℕ → Option Finish → View B → View B → Type 0
   ClosesResult t finish v w = (f : Finish) (ending : Close) → finish ≡ Some f → FinishSays v.born f ending
       → w ≡ became t t (result_of ending) v
+
+  -- these are the steps of that
+  abbrev pub StepsOfClose : ℕ → Option Finish → Seat B → Seat B → Type 0
+  StepsOfClose t finish old new = (f : Finish) → finish ≡ Some f → MakesClosed t (closed_with f) old new

@@ -9,6 +9,8 @@ use Rattle.tj_words.specs.declared.view.View.{View}
 use Rattle.tj_words.specs.LawParts.Chains.{head_of}
 use Rattle.tj_words.specs.Calls.ChainSteps.{rest_of}
 use Rattle.tj_words.specs.SeatViews.SeatSteps.{SeatMe}
+use Rattle.tj_cells.specs.CallLogs.{Seat}
+use Rattle.tj_park.specs.WakeLogs.{MakesReady}
 use Rattle.tj_park.specs.Wakes.{MayWakeTasks, wake_notes}
 
 -- how often OTHERS counts a task in this phase
@@ -37,3 +39,7 @@ module _ {B : Type 0} where
         rest = rest_of p left;
         notes = wake_notes p t way left v ++ v.notes;
       }))
+
+  -- and these are the steps by which it was
+  abbrev pub StepsOfFirst : ℕ → ℕ → Seat B → Seat B → Type 0
+  StepsOfFirst p t old new = (left : List ℕ) → old.me.0.rest ≡ rest_of p (t ∷ left) → MakesReady p t left old new

@@ -7,6 +7,7 @@ use Rattle.tj_words.specs.AtRest.ClosedCells.{AreAtRest, AreCyclesAlarmed, AreAl
 use Rattle.tj_words.specs.AtRest.EndedRuns.{EndsRun}
 use Rattle.tj_words.specs.AtRest.RestMeaning.{HaveMeaning, AreCyclesOfMeaningAlarmed}
 use Rattle.tj_words.specs.AtRest.RestShown.{RestShown}
+use Rattle.tj_words.specs.AtRest.RestValues.{AreValuesOfMeaning}
 use Rattle.tj_words.specs.AtRest.ShownCells.{AreCellsOf}
 use Rattle.tj_words.specs.declared.record.Rec.{Rec}
 use Rattle.tj_words.specs.declared.view.View.{View}
@@ -30,8 +31,9 @@ module _ {B : Type 0} (program : Bool → B → Program B) (root : B) (cells : �
       → AreCyclesAlarmed r.cells
       → AreAlarmsOnCycles r.cells
       → AreCyclesOfMeaningAlarmed (program laid.strict laid.root.value) laid.cells r.cells
+      → AreValuesOfMeaning (program laid.strict laid.root.value) laid.cells r.cells r.words
       → RestsAt program root cells strict r
-  rests_at r limit root_is strict_is drawn rest meaning cycles alarms meant = record {
+  rests_at r limit root_is strict_is drawn rest meaning cycles alarms meant values = record {
     names_limit = limit ∙ of_cells;
     names_root = root_is ∙ of_root;
     names_strict = strict_is ∙ of_strict;
@@ -41,6 +43,7 @@ module _ {B : Type 0} (program : Bool → B → Program B) (root : B) (cells : �
     cycles = cycles;
     alarms = alarms;
     meant_cycles = of_run (λ n p. AreCyclesOfMeaningAlarmed p n r.cells) meant;
+    values = of_run (λ n p. AreValuesOfMeaning p n r.cells r.words) values;
   }
 
   pub ends_its_run : (seat : SeatShown (Option (Rec B)) (View B)) (r : RestShown B)

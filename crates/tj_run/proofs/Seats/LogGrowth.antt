@@ -1,19 +1,20 @@
 -- Each call makes the log of its seat longer.
 use Rattle.std.proofs.Common.{◌≡◌, ◌≢◌, ℕ, Bool, [], ◌∷◌, ◌++◌, refl, sym, ap, ◌∙◌}
-use Rattle.std.proofs.Common.{Option, Some, None, true, false, IfSome, append_assoc}
+use Rattle.std.proofs.Common.{Option, Some, None, true, false, IfSome, append_assoc, min, ⊎_elim, ◌⊎◌}
 use Rattle.tj_base.specs.declared.cell.CellId.{CellId}
 use Rattle.tj_base.specs.declared.cell.Sort.{Sort}
 use Rattle.tj_events.specs.declared.walk.Way.{Way}
 use Rattle.tj_events.specs.declared.walk.Way.TheVariants as ways
-use Rattle.tj_cells.proofs.CallLogs.{grows_by, grows_on}
+use Rattle.tj_cells.proofs.CallLogs.{grows_by, grows_on, node_grows}
 use Rattle.tj_base.specs.declared.cell.Sort.TheVariants as sort
 use Rattle.tj_words.specs.declared.phase.Phase.TheVariants as phase
-use Rattle.tj_cells.specs.CallLogs.{draw_entry, drawn_entries, once_entry, owner_entry, phase_entry}
+use Rattle.tj_cells.specs.CallLogs.{draw_entry, drawn_entries, owner_entry, phase_entry}
 use Rattle.tj_cells.specs.CallLogs.{Grows, MakesClosed, MakesPromise, MakesRefusedDraw, MakesTask, Seat}
 use Rattle.tj_cells.specs.ValueLogs.{LoadsEntry}
 use Rattle.tj_cells.specs.declared.seen.Seen.{Seen}
 use Rattle.tj_cells.specs.declared.seen.Seen.TheVariants as seen
-use Rattle.tj_detect.specs.BlockLogs.{HasLoaded, LogsBlock, MakesBlock, MakesWalk, first_steps, last_steps}
+use Rattle.tj_detect.specs.BlockLogs.{EndsAtChange, EndsAtNoWait, EndsAtOwner, LogsBlock, MakesBlock, MakesHops}
+use Rattle.tj_detect.specs.BlockLogs.{MakesWalk, ends_there, finds_own, first_steps, last_steps, passes_all, passes_one}
 use Rattle.tj_detect.specs.ClimbLogs.{LogsClimb}
 use Rattle.tj_detect.specs.declared.blocking.Verdict.{Verdict}
 use Rattle.tj_detect.specs.declared.blocking.Verdict.TheVariants as verdict
@@ -47,9 +48,8 @@ module _ {B : Type 0} (u v : Seat B) where
 
   -- a child that was made
   pub task_grows : (t kid c : ℕ) → MakesTask t kid c u v → Grows u v
-  task_grows t kid c h = grows_on u h.0 v (grows_by u h.0 (drawn_entries t kid sort.Task c) h.2) (grows_on h.0 h.1 v
-      (grows_by h.0 h.1 (once_entry c once.Jump h.3.1 ∷ once_entry c once.Depth h.3.0 ∷ h.3.2) h.3.4)
-      (grows_by h.1 v (owner_entry c (Some c) ∷ []) h.4))
+  task_grows t kid c h = grows_on u h.0 v (grows_by u h.0 (drawn_entries t kid sort.Task c) h.2)
+      (grows_on h.0 h.1 v (node_grows h.0 h.1 t c h.3) (grows_by h.1 v (owner_entry c (Some c) ∷ []) h.4))
 
   -- a cell that was closed
   pub closed_grows : (p : ℕ) (o : Option Fill) → MakesClosed p o u v → Grows u v
@@ -59,15 +59,25 @@ module _ {B : Type 0} (u v : Seat B) where
   pub climb_grows : (m n : ℕ) → LogsClimb m n u v → Grows u v
   climb_grows m n h = grows_by u v h.loads h.makes
 
-loads_grow : {B : Type 0} (u v : Seat B) (cells bound passed : ℕ) → HasLoaded cells bound passed u v → Grows u v
-loads_grow u v cells bound passed h =
-    grows_on u h.counted v (grows_by u h.counted (_ ∷ []) h.loads_count)
-    (grows_by h.counted v h.loads.loads h.loads.makes)
+-- the loads of a walk
+hop_ends : {B : Type 0} (t p : ℕ) (u v : Seat B) → EndsAtOwner t p u v → Grows u v
+hop_ends t p u v e = ⊎_elim (λ h. grows_by u v (_ ∷ []) h)
+    (λ (k : EndsAtNoWait t p u v ⊎ EndsAtChange t p u v). ⊎_elim
+    (λ (h : EndsAtNoWait t p u v). grows_by u v (_ ∷ _ ∷ []) h.4)
+    (λ (h : EndsAtChange t p u v). grows_by u v (_ ∷ _ ∷ _ ∷ []) h.7) k) e
+
+hops_grow : {B : Type 0} (t left p : ℕ) (o : Verdict) (u v : Seat B) → MakesHops t left p o u v → Grows u v
+hops_grow t _ _ _ _ _ (passes_all p old) = (([], refl), refl)
+hops_grow t _ _ _ _ _ (ends_there left p old new e) = hop_ends t p old new e
+hops_grow t _ _ _ _ _ (finds_own left p old new m) = grows_by old new (_ ∷ []) m
+hops_grow t _ _ _ _ _ (passes_one left p next o old between new g more) =
+    grows_on old between new (grows_by old between (_ ∷ _ ∷ _ ∷ []) g.4) (hops_grow t left next o between new more)
 
 walk_grows : {B : Type 0} (u v : Seat B) (cells t : ℕ) (q : CellId) (way : Way) (o : Verdict)
     → MakesWalk cells t q way o u v → Grows u v
-walk_grows u v cells t q way o h = grows_on u h.walked v (loads_grow u h.walked cells h.bound h.bound h.loads)
-    (grows_by h.walked v (last_steps o t q way) h.ends)
+walk_grows u v cells t q way o h = grows_on u h.counted v (grows_by u h.counted (_ ∷ []) h.loads_count)
+    (grows_on h.counted h.walked v (hops_grow t (min h.count cells) q.0 o h.counted h.walked h.hops)
+    (grows_by h.walked v (last_steps o t q way) h.ends))
 
 -- a call that blocks
 block_walks : {B : Type 0} (u v : Seat B) (cells t : ℕ) (q : CellId) (way : Way) (o : Verdict)

@@ -5,7 +5,7 @@ use Rattle.tj_run.proofs.Prelude.{HeldSays, IfOk, IsCell, IsClosing, IsIn, IsOfR
 use Rattle.tj_run.proofs.Prelude.{KnowsMore, Laid, Next, Ok, PointsRead, Program, Rec, Reference, Result, RunsTask}
 use Rattle.tj_run.proofs.Prelude.{SeatMe, View, Why, [], about_table, after_read, ap, arith, cell_on, false, held_at}
 use Rattle.tj_run.proofs.Prelude.{in_right, inl, inr, inside, length, more_same, reference, refl, some-injective, subst}
-use Rattle.tj_run.proofs.Prelude.{sym, table_program, to_promise, to_task, true, ℕ, ℤ, ⊎_elim, ◌<◌, ◌∙◌, ◌≡◌, ◌≢◌}
+use Rattle.tj_run.proofs.Prelude.{sym, table_program, to_promise, to_task, true, ℕ, ℤ, ⊎_elim, ◌<◌, ◌∙◌, ◌∷◌, ◌≡◌, ◌≢◌}
 use Rattle.tj_cells.specs.declared.seen.Seen.{Seen}
 use Rattle.tj_cells.specs.SeenValues.{SeesValue, cells_seen, saw_value}
 use Rattle.tj_words.specs.SeatViews.Views.{loaded_once}
@@ -81,8 +81,8 @@ module _ {B : Type 0} (program : Bool → B → Program B) (laid : Laid B) (r : 
     w = saw_value c e (cells_seen s) sees.born me.0
 
     more : KnowsMore me.0 w
-    more = (keeps_load me.0 w sees.begins (λ x i. in_right x (cells_seen s) me.0.known i) (λ x i. inr i) (λ x i. i)
-        (λ z. z) (λ z. z) ([], refl)).more
+    more = (keeps_load me.0 w sees.begins (λ x i. in_right x (cells_seen s) (c ∷ me.0.known) (inr i)) (λ x i. inr i)
+        (λ x i. i) (λ z. z) (λ z. z) ([], refl)).more
 
     filled_on : (d : ℕ) (x : Entry) → HasSeen me.0.filled d x → HasSeen w.filled d x
     filled_on d x i = inr i

@@ -6,18 +6,22 @@ use Rattle.tj_words.proofs.Prelude.{get_or, length, subst, sym, ℕ, ◌<◌, �
 use Rattle.tj_words.proofs.Lemmas.{at_index}
 use Rattle.atomic_table.specs.Table.{Final, Seen}
 use Rattle.tj_words.specs.AtRest.RestMeaning.{HaveMeaning}
+use Rattle.tj_words.specs.AtRest.RestValues.{AreClosedWords, AreValuesOfMeaning}
 use Rattle.tj_words.specs.AtRest.ShownCells.{AreTableWords}
+use Rattle.tj_words.proofs.Meaning.ClosedValues.{values_meant, words_closed}
 use Rattle.tj_words.proofs.Meaning.RestingCells as cells
 use Rattle.tj_words.proofs.Meaning.RestingMeaning as meaning
 
 -- what the cells and the slots are of a program at rest
 pub record IsRested {B : Type 0} (program : Bool → B → Program B) (limit : ℕ) (strict : Bool) (root : B)
-    (shown : List RestCell) (slots : List (Option (Rec B))) : Type 0 where
+    (words : List ℕ) (shown : List RestCell) (slots : List (Option (Rec B))) : Type 0 where
   pub are_slots : AreSlots shown slots
   pub rest : AreAtRest shown
   pub meant : HaveMeaning (program strict root) limit shown slots
   pub cycles : AreCyclesAlarmed shown
   pub alarms : AreAlarmsOnCycles shown
+  pub values : AreValuesOfMeaning (program strict root) limit shown words
+  pub closed : AreClosedWords limit (length shown) words
 
 module _ {B : Type 0} {program : Bool → B → Program B} {key : Key B} {words : List ℕ} {slots : List (Option (Rec B))}
     {id : ℕ} {v : View B} (final : Final (Seen (Rule program key) id v) words slots) (may : MayRest v)
@@ -25,7 +29,7 @@ module _ {B : Type 0} {program : Bool → B → Program B} {key : Key B} {words 
   rested_here : AreCellsOf words key.cells shown → CyclesAreWatched → AlarmsAreOnCycles
       → ((strict : Bool) (root : B) → IsRooted (program strict root) → RestsAtMeaning (program strict root))
       → ((strict : Bool) (root : B) → IsRooted (program strict root) → IsLast (program strict root))
-      → IsRested program key.cells key.strict key.root.value shown slots
+      → IsRested program key.cells key.strict key.root.value words shown slots
   rested_here are watched alarms rests last =
       let s = final.0 in let r = final.1.0 in let at = final.1.1 in
       let e = subst (λ w. AreCellsOf w key.cells shown) (sym final.2) are in
@@ -40,6 +44,10 @@ module _ {B : Type 0} {program : Bool → B → Program B} {key : Key B} {words 
         );
         cycles = cells.cycles_alarmed r id at may e watched;
         alarms = cells.alarms_on_cycles r id at may e alarms;
+        values = subst (AreValuesOfMeaning (program key.strict key.root.value) key.cells shown) final.2
+            (values_meant r id at may e slots final.3 final.4 law end);
+        closed = subst (AreClosedWords key.cells (length shown)) final.2
+            (words_closed r id at may e slots final.3 final.4 law end);
       }
 
   -- the same, where the key names this program and so many cells
@@ -47,11 +55,11 @@ module _ {B : Type 0} {program : Bool → B → Program B} {key : Key B} {words 
       → key.root.value ≡ root → AreCellsOf words limit shown → CyclesAreWatched → AlarmsAreOnCycles
       → ((strict : Bool) (root : B) → IsRooted (program strict root) → RestsAtMeaning (program strict root))
       → ((strict : Bool) (root : B) → IsRooted (program strict root) → IsLast (program strict root))
-      → IsRested program limit strict root shown slots
+      → IsRested program limit strict root words shown slots
   rested {limit} {strict} {root} a b c are watched alarms rests last =
-      subst (λ n. IsRested program n strict root shown slots) a
-      (subst (λ t. IsRested program key.cells t root shown slots) b
-      (subst (λ z. IsRested program key.cells key.strict z shown slots) c
+      subst (λ n. IsRested program n strict root words shown slots) a
+      (subst (λ t. IsRested program key.cells t root words shown slots) b
+      (subst (λ z. IsRested program key.cells key.strict z words shown slots) c
       (rested_here (subst (λ n. AreCellsOf words n shown) (sym a) are) watched alarms rests last)))
 
 -- the words of a table that was closed may stand in their places

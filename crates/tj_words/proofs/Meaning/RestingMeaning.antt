@@ -235,7 +235,7 @@ module _ {B : Type 0} {program : Bool → B → Program B} {key : Key B} {s : St
     abbrev lived : Task B → Point B
     lived = history P.rules (given P (last_round key.cells))
 
-    m : IsMeant born (tag_in x) (home_of x) P key.cells (bits_in x)
+    pub m : IsMeant born (tag_in x) (home_of x) P key.cells (bits_in x)
     m = rest_meant P key.cells {g = ground_of key.cells born x} {k = known_of x} (law_meant P key.cells x r.law)
         (born_apart r.law) r.law.births.root (let b = r.law.births.all in omega arith) resting law
 

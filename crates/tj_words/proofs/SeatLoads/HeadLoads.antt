@@ -5,7 +5,7 @@ use Rattle.tj_words.proofs.Prelude.{inr, none, refl, shut_word, some, step, subs
 use Rattle.tj_words.proofs.Prelude.{◌<◌, ◌∷◌, ◌≡◌, ◌≢◌, ◌≤◌}
 use Rattle.tj_words.proofs.Lemmas.{Learns, are_cells, back, knowing_of, knows_so, load_allowed}
 use Rattle.tj_words.proofs.SeatLoads.LoadSteps.{found_so}
-use Rattle.tj_words.proofs.SeatLoads.KnowLoads.{all_cons, one_of, shut_is, will_have, entry_so, same_entry}
+use Rattle.tj_words.proofs.SeatLoads.KnowLoads.{all_cons, none_of, one_of, shut_is, will_have, entry_so, same_entry}
 use Rattle.tj_words.proofs.Waiters.ChainFacts.{head_small, line_lacks, line_small}
 use Rattle.tj_words.specs.SeatViews.Views.{found_shut, found_chain}
 
@@ -30,7 +30,7 @@ module _ {B : Type 0} (program : Bool → B → Program B) (key : Key B) where
           let has = law.meaning.entries c (law.chains.tagged c shut) in (
             found_shut c law.born has.0 v,
             (refl, λ y id. refl),
-            entry_so r id v k c has (one_of c shut),
+            entry_so r id v k c has none_of (one_of c shut),
             (
               refl,
               small,

@@ -258,10 +258,11 @@ module _ {B : Type 0} {program : Bool → B → Program B} {key : Key B} {s : St
     will_have a e = subst (λ (y : About B). Becomes (program y.strict y.root) has.1.written.reference.name has.0)
         (sym ((r.seats id v at).about a e)) has.1.written.becomes
 
-    pub entry_so : (closed : AllOf (λ p. (contents_of s).words.head p ≡ Shut))
+    pub entry_so : (known : AllOf (IsThere (drawn_in key.cells (contents_of s)) (hand_of (contents_of s))))
+        (closed : AllOf (λ p. (contents_of s).words.head p ≡ Shut))
         → IsSo (program key.strict key.root.value) key.cells (contents_of s) r.law
-        (learned r.law (knowing_of v) [] (record { cell = c; entry = has.0 } ∷ []) [] closed.0)
-    entry_so closed = learned_so r.law (knowing_of v) so_now none_of
+        (learned r.law (knowing_of v) known.0 (record { cell = c; entry = has.0 } ∷ []) [] closed.0)
+    entry_so known closed = learned_so r.law (knowing_of v) so_now known
         (one_of (record { cell = c; entry = has.0 }) has.1) none_of closed
 
 -- the load of a word of cell c that is written once
@@ -333,7 +334,7 @@ module _ {B : Type 0} {program : Bool → B → Program B} {key : Key B} {s : St
       (λ z. let has = law.meaning.entries c z in (
         saw_entry c has.0 law.born v,
         (refl, λ y id. refl),
-        entry_so r id v at c has none_of,
+        entry_so r id v at c has (one_of c (law.once_words.valued c once.Tag (λ a. a) z).0) none_of,
         (
           refl,
           (

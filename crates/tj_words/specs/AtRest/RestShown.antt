@@ -13,10 +13,11 @@ module _ {B : Type 0} where
     pub few : length records ≤ MAX_CELLS
     pub promises : (c : ℕ) (x : RestCell) → IsShown cells c x → (get_or records c None ≡ None) ↔ (x.phase ≡ Promise)
 
--- the cells, a slot for each of so many cells with the record of its task, and the program: its root's body, and
--- whether the rule is strict
+-- the cells, all words of the table, a slot for each of so many cells with the record of its task, and the program: its
+-- root's body, and whether the rule is strict
 pub record RestShown (B : Type 0) : Type 0 where
   pub cells : List RestCell
+  pub words : List ℕ
   pub records : List (Option (Rec B))
   pub limit : ℕ
   pub root : B

@@ -83,12 +83,13 @@ module _ {B : Type 0} where
     seen = record { cell = c; word = f; value = value } ∷ v.seen;
   }
 
-  -- the word is TAG, and something has become of the cell
+  -- the word is TAG, and something has become of the cell, which the seat knows from now on
   abbrev pub saw_entry : ℕ → Entry → List Reference → View B → View B
   saw_entry c e born v = record v {
     steps = suc v.steps;
     once_loads = suc v.once_loads;
     born = born;
+    known = c ∷ v.known;
     filled = record { cell = c; entry = e } ∷ v.filled;
   }
 

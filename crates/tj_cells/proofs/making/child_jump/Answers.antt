@@ -1,7 +1,6 @@
 use Rattle.tj_cells.proofs.Prelude.{eq-eqb, later_on, ne_eqb, refl, sym, true, ◌-◌, ◌∙◌, ◌≡◌, ◌≢◌}
 use Rattle.std.proofs.Common.{false}
 use Rattle.tj_words.specs.SeatViews.TreeReads.{MayLook}
-use Rattle.tj_cells.proofs.CallLogs.{look_loads, more_loads}
 use Rattle.tj_cells.proofs.ChildJumps.{jumps_so}
 use Rattle.tj_cells.proofs.making.child_jump.Goals as goal
 
@@ -41,12 +40,8 @@ returns-else-saturating_sub-clause-later g c = later_on c.args.seat.now c.see_no
 
 pub returns-then-saturating_sub-clause-log : goal.returns-then-saturating_sub-clause-log
 returns-then-saturating_sub-clause-log g c = let near = c.see_node-near in let far = c.see_node-far in
-    more_loads c.args.seat.now near.new.seat far.new.seat 4 4 8 refl
-    (look_loads c.args.seat.now near.new.seat c.args.node.jump.0 near.result near.ensures.log)
-    (look_loads near.new.seat far.new.seat near.result.jump.0 far.result far.ensures.log)
+    (near.result, far.result, near.new.seat, near.ensures.log, far.ensures.log)
 
 pub returns-else-saturating_sub-clause-log : goal.returns-else-saturating_sub-clause-log
 returns-else-saturating_sub-clause-log g c = let near = c.see_node-near in let far = c.see_node-far in
-    more_loads c.args.seat.now near.new.seat far.new.seat 4 4 8 refl
-    (look_loads c.args.seat.now near.new.seat c.args.node.jump.0 near.result near.ensures.log)
-    (look_loads near.new.seat far.new.seat near.result.jump.0 far.result far.ensures.log)
+    (near.result, far.result, near.new.seat, near.ensures.log, far.ensures.log)

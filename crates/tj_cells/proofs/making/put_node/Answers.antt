@@ -1,7 +1,6 @@
 use Rattle.tj_cells.proofs.Prelude.{Node, ap, arith, later_on, wrote_word, ◌+◌, ◌∙◌}
 use Rattle.tj_words.proofs.SeatLoads.NodeLooks.{shown_later}
-use Rattle.std.proofs.Common.{refl}
-use Rattle.tj_cells.proofs.CallLogs.{look_loads, more_loads, node_made}
+use Rattle.tj_cells.proofs.CallLogs.{node_made}
 use Rattle.tj_cells.proofs.MakingViews.{may_depth, may_jump}
 use Rattle.tj_words.specs.declared.offsets.Once.TheVariants as once
 use Rattle.tj_cells.proofs.making.put_node.Goals as goal
@@ -49,8 +48,6 @@ pub returns-clause-log : goal.returns-clause-log
 returns-clause-log g c =
     let look = c.see_node-maker in
     let jump = c.child_jump-jump in
-    node_made c.args.seat.now jump.new.seat c.put_once.new.seat c.put_once-2.new.seat c.args.c.0
-    (look.result.depth + 1) c.link_word.result
-    (more_loads c.args.seat.now look.new.seat jump.new.seat 4 8 12 refl
-    (look_loads c.args.seat.now look.new.seat c.args.t.0 look.result look.ensures.log) jump.ensures.log)
-    c.put_once.ensures.log c.put_once-2.ensures.log
+    node_made c.args.seat.now look.new.seat jump.new.seat c.put_once.new.seat c.put_once-2.new.seat c.args.t.0
+    c.args.c.0 c.link_word.result look.result look.ensures.log jump.ensures.log c.put_once.ensures.log
+    c.put_once-2.ensures.log

@@ -17,7 +17,7 @@ returns-in-Rested-clause-rest g c = let b = g.B.Body in let made = c.in_ok-laid.
     (sym c.with_root.ensures.rest)
     (rests_at (program_of b.places b.awaits b.left b.asks b.then) c.args.root c.args.cells false
     c.in_ok-laid.laid made.cells made.strict made.root c.rest.result e.limit e.root e.strict e.drawn e.rest e.meaning
-    e.cycles e.alarms e.meant_cycles)
+    e.cycles e.alarms e.meant_cycles e.values)
 
 pub returns-in-Rested-clause-watched : goal.returns-in-Rested-clause-watched
 returns-in-Rested-clause-watched g c =

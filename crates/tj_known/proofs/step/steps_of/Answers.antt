@@ -7,4 +7,4 @@ pub loop-act-preserved : goal.loop-act-preserved
 loop-act-preserved c = subst (λ ss. AreSteps c.args.lines.now (take (c.loop-act.act-index + 1) c.args.acts.now) ss)
     (sym c.in_ok-push.ensures.items)
     (more_steps c.args.lines.now c.args.acts.now c.loop-act.act-index c.act-item.result c.loop-act-test.true
-    c.act-item.is c.loop-act.steps.items c.step_of.result c.loop-act.invariant c.step_of.ensures)
+    c.act-item.is c.loop-act.steps.items c.step_of-step.result c.loop-act.invariant c.step_of-step.ensures)

@@ -1,20 +1,18 @@
-use Rattle.tj_park.proofs.Prelude.{MayWake, WakesAll, arith, cell, get_or, program_of, refl, subst, sym, ◌∙◌}
-use Rattle.tj_park.proofs.WakeLoops.{nothing_noted}
+use Rattle.tj_park.proofs.Prelude.{MayWake, cell, get_or, program_of, refl, subst, sym, ◌∙◌}
+use Rattle.std.proofs.Common.{arith}
 use Rattle.tj_park.proofs.BreakSteps.{none_broken, may_give_up, will_break, is_small, may_wake_broken, one_broken}
-use Rattle.tj_park.proofs.BreakSteps.{about_kept, all_woke, next_left, none_left, notes_kept, one_break_woke}
-use Rattle.std.proofs.Common.{None}
-use Rattle.tj_cells.proofs.CallLogs.{grows_still}
-use Rattle.tj_park.proofs.ParkLogs.{broken_grows}
+use Rattle.tj_park.proofs.BreakSteps.{about_kept, next_left, none_left, notes_kept}
+use Rattle.tj_park.proofs.EndLogs.{break_fails, breaks_all, breaks_next}
+use Rattle.tj_park.proofs.WakeLoops.{on_err}
 use Rattle.tj_park.proofs.finishes.break_promises.Goals as goal
 
 pub loop-p-init : goal.loop-p-init
 loop-p-init g c = record {
   seat = (refl, refl, refl);
-  log = grows_still c.args.seat.now c.args.seat.now refl refl;
   limit = refl;
   broken = none_broken (program_of g.B.Body.places g.B.Body.awaits g.B.Body.left g.B.Body.asks g.B.Body.then)
       c.args.t.0 c.args.promises.now c.args.seat.now.me.0 c.requires.may;
-  woke = (nothing_noted c.args.seat.now.me.0, refl);
+  breaks = (refl, refl);
 }
 
 pub break_off-requires-clause-table : goal.break_off-requires-clause-table
@@ -72,17 +70,14 @@ loop-p-preserved g c =
     let s = c.loop-p.invariant.seat in
     let b = c.break_off.ensures.seat in
     let w = c.wake.ensures.seat in
-    let woke : WakesAll g.P.Pool.puts (get_or ps i (cell 0)).0 c.in_ok-wake.field-0 c.break_off.new.seat.me.0
-    c.wake.new.seat.me.0 c.loop-p.pool c.wake.new.pool = c.in_ok-wake.ensures.woke in
+    let woke = c.in_ok-wake.ensures.woke in
     record {
       seat = (w.0 ∙ (b.0 ∙ s.0), w.1 ∙ (b.1 ∙ s.1), w.2 ∙ (b.2 ∙ s.2));
-      log = broken_grows (get_or ps i (cell 0)).0 None c.args.seat.now c.loop-p.seat c.break_off.new.seat c.wake.new.seat c.loop-p.invariant.log
-          c.break_off.ensures.log c.wake.ensures.log;
       limit = c.wake.ensures.limit ∙ c.loop-p.invariant.limit;
       broken = one_broken c.requires.may h c.break_off.ensures.view woke.woke;
-      woke = one_break_woke g.P.Pool.puts c.args.t.0 ps i c.in_ok-wake.field-0 c.args.seat.now.me.0 c.loop-p.seat.me.0
-          c.break_off.new.seat.me.0 c.wake.new.seat.me.0 c.args.pool.now c.loop-p.pool c.wake.new.pool
-          c.loop-p.invariant.woke c.loop-p-test.true c.break_off.ensures.view woke;
+      breaks = breaks_next g.P.Pool.puts c.args.t.0 ps i c.args.seat.now c.loop-p.seat c.break_off.new.seat
+          c.wake.new.seat c.args.pool.now c.loop-p.pool c.wake.new.pool c.loop-p.invariant.breaks c.loop-p-test.true
+          c.break_off.ensures.log c.break_off.ensures.view c.in_ok-wake.field-0 woke;
     }
 
 pub returns-clause-seat : goal.returns-clause-seat
@@ -99,10 +94,17 @@ returns-clause-broken g c =
     let most = c.loop-p-test.false in
     none_left c.loop-p.p-index c.loop-p.invariant.broken (omega arith)
 
-pub returns-clause-woke : goal.returns-clause-woke
-returns-clause-woke g c = let most = c.loop-p-test.false in
-    all_woke g.P.Pool.puts c.args.promises.now c.loop-p.p-index c.args.seat.now.me.0 c.loop-p.seat.me.0
-    c.args.pool.now c.loop-p.pool c.loop-p.invariant.woke (omega arith)
+pub returns-clause-breaks : goal.returns-clause-breaks
+returns-clause-breaks g c = let most = c.loop-p-test.false in
+    breaks_all g.P.Pool.puts c.args.promises.now c.loop-p.p-index c.args.seat.now c.loop-p.seat
+    c.args.pool.now c.loop-p.pool c.loop-p.invariant.breaks (omega arith)
+
+pub returns-in_err-wake-clause-memory : goal.returns-in_err-wake-clause-memory
+returns-in_err-wake-clause-memory g c = on_err c.from_residual.result
+    (break_fails g.P.Pool.puts c.args.t.0 c.args.promises.now c.loop-p.p-index c.args.seat.now c.loop-p.seat
+    c.break_off.new.seat c.wake.new.seat c.args.pool.now c.loop-p.pool c.wake.new.pool c.loop-p.invariant.breaks
+    c.loop-p-test.true c.break_off.ensures.log c.break_off.ensures.view g.P.Pool.same
+    c.in_err-wake.ensures.memory)
 
 pub returns-in_err-wake-clause-notes : goal.returns-in_err-wake-clause-notes
 returns-in_err-wake-clause-notes g c =
@@ -111,11 +113,3 @@ returns-in_err-wake-clause-notes g c =
 
 pub returns-clause-notes : goal.returns-clause-notes
 returns-clause-notes g c = c.loop-p.invariant.broken.knows.notes
-
-pub returns-in_err-wake-clause-log : goal.returns-in_err-wake-clause-log
-returns-in_err-wake-clause-log g c = broken_grows (get_or c.args.promises.now c.loop-p.p-index (cell 0)).0 None
-    c.args.seat.now c.loop-p.seat c.break_off.new.seat c.wake.new.seat
-    c.loop-p.invariant.log c.break_off.ensures.log c.wake.ensures.log
-
-pub returns-clause-log : goal.returns-clause-log
-returns-clause-log g c = c.loop-p.invariant.log

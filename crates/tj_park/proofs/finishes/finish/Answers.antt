@@ -1,13 +1,11 @@
-use Rattle.tj_park.proofs.Prelude.{MayBreak, WakesEach, drop, numbers, program_of, result_of, subst, sym, ◌∙◌}
+use Rattle.tj_park.proofs.Prelude.{MayBreak, inl, inr, numbers, program_of, result_of, subst, sym, ◌∙◌}
 use Rattle.tj_park.proofs.EndSteps.{is_cell, may_break}
 use Rattle.tj_park.proofs.EndRuns.{begun, may_close, laid, may_end, at_end, may_wake, unnoted, about_woken, notes_woken}
 use Rattle.tj_park.proofs.EndRuns.{may_lower, finished, slots_then, unnoted_last}
+use Rattle.tj_park.proofs.EndLogs.{stores_ended}
 use Rattle.tj_park.proofs.OwedRecords.{closes_once, owes_at_home}
-use Rattle.tj_park.proofs.WakeLoops.{one_wake_more}
-use Rattle.std.proofs.Common.{[], ◌∷◌}
-use Rattle.tj_cells.proofs.CallLogs.{grows_by, grows_on}
-use Rattle.tj_words.specs.declared.phase.Phase.TheVariants as phase
-use Rattle.tj_park.proofs.ParkLogs.{before_end, stored_phase}
+use Rattle.tj_park.proofs.WakeLoops.{on_err}
+use Rattle.tj_park.specs.EndLogs.{BreaksSome}
 use Rattle.tj_park.proofs.finishes.finish.Goals as goal
 
 pub break_promises-requires-clause-may : goal.break_promises-requires-clause-may
@@ -113,22 +111,54 @@ returns-clause-slots g c =
     (c.close_result.ensures.seat.2 ∙ c.break_promises.ensures.seat.2) c.put_phase.ensures.puts in
     slots_then e end c.in_ok-wake.ensures.woke.woke c.wake.ensures.seat.2 c.live_down.ensures.me
 
-pub returns-clause-woke : goal.returns-clause-woke
-returns-clause-woke g c =
+pub returns-clause-steps : goal.returns-clause-steps
+returns-clause-steps g c =
     let m = c.requires.may in
     let e = begun c.args.seat.now.me.1 m (c.points_in_rounds.ensures.written m.about.strict m.about.root m.rooted)
     c.names_and_cells.ensures.elements c.promises.ensures.promises c.in_ok-break_promises.ensures.broken
     c.requires.others in
     let end = at_end e c.slot_swap.ensures.me c.close_result.ensures.view c.finish.ensures c.end.ensures
     (c.close_result.ensures.seat.2 ∙ c.break_promises.ensures.seat.2) c.put_phase.ensures.puts in
-    one_wake_more g.P.Pool.puts (numbers (drop 1 c.args.rec.owned)) c.args.t.0 c.in_ok-wake.field-0
-    c.args.seat.now.me.0 c.break_promises.new.seat.me.0 c.put_phase.new.seat.me.0 c.wake.new.seat.me.0
-    c.live_down.new.seat.me.0 c.args.pool.now c.break_promises.new.pool c.wake.new.pool
-    (subst (λ l. WakesEach g.P.Pool.puts (numbers l) c.args.seat.now.me.0 c.break_promises.new.seat.me.0
-    c.args.pool.now c.break_promises.new.pool)
-    c.promises.ensures.promises c.in_ok-break_promises.ensures.woke)
-    (unnoted e end) c.in_ok-wake.ensures.woke
-    (unnoted_last e end c.in_ok-wake.ensures.woke.woke c.wake.ensures.seat.2 c.live_down.ensures.me)
+    record {
+      ended = c.put_phase.new.seat;
+      woken = c.wake.new.seat;
+      between = c.break_promises.new.pool;
+      number = c.in_ok-wake.field-0;
+      live = c.live_down.ensures.log.0;
+      stores = stores_ended g.P.Pool.puts c.args.t.0 c.args.rec m.finish c.args.seat.now c.break_promises.new.seat
+          c.close_result.new.seat c.slot_swap.new.seat c.put_phase.new.seat c.args.pool.now
+          c.break_promises.new.pool m.finished c.promises.ensures.promises c.in_ok-break_promises.ensures.breaks
+          c.finish.ensures c.close_result.ensures.log c.slot_swap.ensures.log c.put_phase.ensures.log
+          (unnoted e end);
+      wakes = c.in_ok-wake.ensures.woke;
+      lowers = c.live_down.ensures.log.1;
+      noted = unnoted_last e end c.in_ok-wake.ensures.woke.woke c.wake.ensures.seat.2 c.live_down.ensures.me;
+    }
+
+pub returns-in_err-break_promises-clause-memory : goal.returns-in_err-break_promises-clause-memory
+returns-in_err-break_promises-clause-memory g c = on_err c.from_residual.result
+    (inl (subst (λ l. BreaksSome g.P.Pool.puts g.P.Pool.same (numbers l) c.args.seat.now c.break_promises.new.seat
+    c.args.pool.now c.break_promises.new.pool) c.promises.ensures.promises
+    c.in_err-break_promises.ensures.memory))
+
+pub returns-in_err-wake-clause-memory : goal.returns-in_err-wake-clause-memory
+returns-in_err-wake-clause-memory g c =
+    let m = c.requires.may in
+    let e = begun c.args.seat.now.me.1 m (c.points_in_rounds.ensures.written m.about.strict m.about.root m.rooted)
+    c.names_and_cells.ensures.elements c.promises.ensures.promises c.in_ok-break_promises.ensures.broken
+    c.requires.others in
+    let end = at_end e c.slot_swap.ensures.me c.close_result.ensures.view c.finish.ensures c.end.ensures
+    (c.close_result.ensures.seat.2 ∙ c.break_promises.ensures.seat.2) c.put_phase.ensures.puts in
+    on_err c.from_residual-in_err-wake.result (inr (
+      c.put_phase.new.seat,
+      c.break_promises.new.pool,
+      stores_ended g.P.Pool.puts c.args.t.0 c.args.rec m.finish c.args.seat.now c.break_promises.new.seat
+          c.close_result.new.seat c.slot_swap.new.seat c.put_phase.new.seat c.args.pool.now
+          c.break_promises.new.pool m.finished c.promises.ensures.promises c.in_ok-break_promises.ensures.breaks
+          c.finish.ensures c.close_result.ensures.log c.slot_swap.ensures.log c.put_phase.ensures.log
+          (unnoted e end),
+      c.in_err-wake.ensures.memory,
+    ))
 
 pub returns-clause-home : goal.returns-clause-home
 returns-clause-home g c = let m = c.requires.may in
@@ -159,29 +189,3 @@ returns-in_err-break_promises-clause-notes g c = c.break_promises.ensures.notes
 
 pub returns-clause-notes : goal.returns-clause-notes
 returns-clause-notes g c = (returns-clause-ended g c).knows.notes
-
-pub returns-in_err-wake-clause-log : goal.returns-in_err-wake-clause-log
-returns-in_err-wake-clause-log g c =
-    let old = c.args.seat.now in let laid = c.slot_swap.new.seat in let put = c.put_phase.new.seat in
-    let before = before_end old c.break_promises.new.seat c.close_result.new.seat laid c.break_promises.ensures.log
-    c.close_result.ensures.log c.slot_swap.ensures.log in
-    grows_on old put c.wake.new.seat
-    (grows_on old laid put before (grows_by laid put (_ ∷ []) c.put_phase.ensures.log)) c.wake.ensures.log
-
-pub returns-clause-log : goal.returns-clause-log
-returns-clause-log g c =
-    let old = c.args.seat.now in let laid = c.slot_swap.new.seat in let put = c.put_phase.new.seat in
-    let woke = c.wake.new.seat in let new = c.live_down.new.seat in
-    let before = before_end old c.break_promises.new.seat c.close_result.new.seat laid c.break_promises.ensures.log
-    c.close_result.ensures.log c.slot_swap.ensures.log in
-    grows_on old put new (grows_on old laid put before (grows_by laid put (_ ∷ []) c.put_phase.ensures.log))
-    (grows_on put woke new c.wake.ensures.log (grows_by woke new (_ ∷ []) c.live_down.ensures.log.1))
-
-pub returns-clause-log_ended : goal.returns-clause-log_ended
-returns-clause-log_ended g c =
-    let old = c.args.seat.now in let laid = c.slot_swap.new.seat in let put = c.put_phase.new.seat in
-    let before = before_end old c.break_promises.new.seat c.close_result.new.seat laid c.break_promises.ensures.log
-    c.close_result.ensures.log c.slot_swap.ensures.log in
-    stored_phase c.args.t.0 phase.Ended old laid put c.live_down.new.seat before c.put_phase.ensures.log
-    (grows_on put c.wake.new.seat c.live_down.new.seat c.wake.ensures.log
-    (grows_by c.wake.new.seat c.live_down.new.seat (_ ∷ []) c.live_down.ensures.log.1))

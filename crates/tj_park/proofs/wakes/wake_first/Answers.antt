@@ -1,8 +1,5 @@
 use Rattle.tj_park.proofs.Prelude.{refl, ◌∙◌}
-use Rattle.tj_park.proofs.WakeSteps.{may_up, may_swap, counted, slots_woke, wakes_first}
-use Rattle.std.proofs.Common.{[], ◌∷◌}
-use Rattle.tj_cells.proofs.CallLogs.{grows_by, grows_on, makes_one}
-use Rattle.tj_park.proofs.ParkLogs.{lowered_grows, swap_grows}
+use Rattle.tj_park.proofs.WakeSteps.{may_up, may_swap, counted, slots_woke, steps_of_first, wakes_first}
 use Rattle.tj_park.proofs.wakes.wake_first.Goals as goal
 
 pub live_up-requires-clause-may : goal.live_up-requires-clause-may
@@ -46,16 +43,12 @@ returns-clause-woke g c = λ left rests.
     c.live_up.ensures.me _ _ _ c.swap_phase.ensures.swapped c.swap_phase.ensures.found c.lower.ensures.view
 
 pub returns-clause-log : goal.returns-clause-log
-returns-clause-log g c =
-    let a = c.next_of-next.new.seat in
-    let b = c.see_phase-was.new.seat in
-    let d = c.live_up.new.seat in
-    let e = c.swap_phase.new.seat in
-    grows_on c.args.seat.now e c.lower.new.seat
-    (grows_on c.args.seat.now d e
-    (grows_on c.args.seat.now b d
-    (grows_by c.args.seat.now b (_ ∷ _ ∷ [])
-    (makes_one c.args.seat.now a b (_ ∷ []) _ c.next_of-next.ensures.log c.see_phase-was.ensures.log))
-    (grows_by b d (_ ∷ []) c.live_up.ensures.log.1))
-    (swap_grows c.swap_phase.result _ _ d e c.swap_phase.ensures.log_swapped c.swap_phase.ensures.log_found))
-    (lowered_grows c.see_phase-was.result e c.lower.new.seat c.lower.ensures.log)
+returns-clause-log g c = λ left rests.
+    let a = c.next_of-next in
+    let b = c.see_phase-was in
+    let up = c.live_up in
+    let e = c.swap_phase in
+    steps_of_first c.requires.may.wakes rests a.ensures.view a.ensures.seat.2 a.ensures.first b.ensures.view
+    b.ensures.seat.2 (b.ensures.first refl) up.ensures.log.0 e.result up.new.seat.me e.new.seat.me c.args.seat.now
+    a.new.seat b.new.seat up.new.seat e.new.seat c.lower.new.seat a.ensures.log b.ensures.log up.ensures.log.1
+    e.ensures.log_swapped e.ensures.found c.lower.ensures.log

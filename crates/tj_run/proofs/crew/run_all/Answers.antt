@@ -10,7 +10,7 @@ pub returns-in-Rested-clause-rest : goal.returns-in-Rested-clause-rest
 returns-in-Rested-clause-rest g c = let b = g.B.Body in let made = c.in_ok-laid.ensures in let e = c.rest.ensures in
     rests_at (program_of b.places b.awaits b.left b.asks b.then) c.args.root c.args.cells c.args.strict
     c.in_ok-laid.laid made.cells made.strict made.root c.rest.result e.limit e.root e.strict e.drawn e.rest e.meaning
-    e.cycles e.alarms e.meant_cycles
+    e.cycles e.alarms e.meant_cycles e.values
 
 pub returns-in-Rested-clause-run : goal.returns-in-Rested-clause-run
 returns-in-Rested-clause-run g c = let b = g.B.Body in let made = c.in_ok-laid.ensures in

@@ -1,6 +1,6 @@
 use Rattle.std.proofs.Common.{◌≡◌, sym, ◌∙◌}
 use Rattle.tj_told.proofs.Climbing.{grows_by}
-use Rattle.tj_told.proofs.LoggedRounds.{all_later}
+use Rattle.tj_told.proofs.KeptNews.{seen_on}
 use Rattle.tj_told.proofs.Climbing.{observes_on}
 use Rattle.tj_told.proofs.Observing.{after_store}
 use Rattle.tj_told.specs.declared.observer.Sight.TheVariants as sight
@@ -11,7 +11,7 @@ loop-i-preserved g c = let i = c.loop-i.invariant in let l = c.look-sight in rec
   seat = observes_on c.args.laid.now c.loop-i.seat l.new.seat i.seat l.ensures.seat;
   lot = l.ensures.seat.more.lot ∙ i.lot;
   seen = λ h. l.ensures.seen (i.seen h);
-  hears = λ s h. l.ensures.goes s (i.hears s h)
+  hears = λ seen s h. l.ensures.goes (i.seen seen) s (i.hears seen s h)
       (λ e. let z : sight.GoesOn ≡ sight.Stops = sym c.in-GoesOn.is ∙ e in absurd (cc));
 }
 
@@ -31,5 +31,5 @@ returns-in-Ended-clause-seen g c h = c.look-sight.ensures.seen (c.loop-i.invaria
 pub returns-in-Stops-clause-seen : goal.returns-in-Stops-clause-seen
 returns-in-Stops-clause-seen g c h = let l = c.look-sight in let e = c.stop.ensures in
     let on = after_store 2 l.new.seat c.stop.new.seat e.table e.id e.me (grows_by e.log.0) in
-    all_later l.new.seat.log c.stop.new.seat.log l.new.seat.me.0.seen c.stop.new.seat.me.0.seen on.log on.more.seen
-    l.new.telling.cycles (l.ensures.seen (c.loop-i.invariant.seen h))
+    seen_on l.new.seat c.stop.new.seat l.new.telling.met.items l.new.telling.news on
+    (l.ensures.seen (c.loop-i.invariant.seen h))

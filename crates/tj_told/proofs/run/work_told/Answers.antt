@@ -9,7 +9,7 @@ use Rattle.tj_body.specs.Programs.{program_of}
 use Rattle.tj_words.specs.contracts.view.View as view
 use Rattle.tj_run.proofs.Seats.ThreadSends.{laid_sync, seven_send, slot_send}
 use Rattle.tj_told.proofs.telling.Telling.TheSendSync as telling
-use Rattle.tj_told.proofs.LoggedRounds.{seen_taken}
+use Rattle.tj_told.proofs.KeptNews.{seen_taken}
 use Rattle.tj_told.proofs.TakenSeats.{bell_sync, leaves_taken, looks_send}
 use Rattle.tj_told.proofs.run.work_told.Goals as goal
 
@@ -32,6 +32,11 @@ returns-clause-left g c = let b = g.B.Body in let joined = c.join-watched in
 
 pub returns-clause-seen : goal.returns-clause-seen
 returns-clause-seen g c none rested = let j = c.join-watched in let t = c.take_in-seat in
-    seen_taken j.result.1.0.took j.result.0.0.log j.result.0.0.took t.result.0.took j.result.0.0.me.0.seen
-    j.result.1.0.me.0.seen t.result.0.me.0.seen j.result.0.1.cycles (t.ensures.took rested)
-    (ap (λ m. m.0.seen) (t.ensures.rested rested).1) (j.ensures.first.4 none)
+    seen_taken j.result.1.0 j.result.0.0 t.result.0 j.result.0.1.met.items j.result.0.1.news
+    (t.ensures.took rested) (t.ensures.rested rested).1 (j.ensures.first.4 none)
+
+pub returns-clause-goes : goal.returns-clause-goes
+returns-clause-goes g c none s h n = c.join-watched.ensures.first.5 none s h n
+
+pub returns-clause-stops : goal.returns-clause-stops
+returns-clause-stops g c none s h e = c.join-watched.ensures.first.6 none s h e

@@ -17,9 +17,9 @@ loop-cycle-preserved g c =
     let later = subst (λ (z : List (List Link)). l.cycle-index < length z) e c.loop-cycle-test.true in
     let is = subst (λ (z : List (List Link)). x ≡ get_or z l.cycle-index x) e c.cycle-item.is in
     let t = c.in_ok-tell_new in record {
-      only = only_so_far c.args.telling.now.cycles cs l.telling.cycles c.tell_new.new.self.cycles x (item_in cs l.cycle-index x later is)
-          t.ensures.adds i.only;
-      all = all_so_far cs l.telling.cycles c.tell_new.new.self.cycles l.cycle-index x later is t.ensures.adds i.all;
+      only = only_so_far c.args.telling.now.news l.telling.news c.tell_new.new.self.news cs x
+          (item_in cs l.cycle-index x later is) t.ensures.adds i.only;
+      all = all_so_far cs l.telling.news c.tell_new.new.self.news l.cycle-index x later is t.ensures.adds i.all;
       hears = λ s h. c.tell_new.ensures.goes s (i.hears s h) (on_no_stop c.tell_new.result t.field-0 t.was c.in-On.is);
     }
 

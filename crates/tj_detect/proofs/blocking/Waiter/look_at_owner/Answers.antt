@@ -1,7 +1,6 @@
 use Rattle.tj_detect.proofs.Prelude.{MayReadOwner, Some, ap, inl, owner_number, owner_read, refl}
 use Rattle.tj_detect.proofs.WalkReads.{no_owner, is_own, at_owner, hops, its_next, walks_at}
-use Rattle.std.proofs.Common.{arith}
-use Rattle.tj_detect.proofs.BlockSteps.{loads_few, loads_on, loads_owner}
+use Rattle.tj_detect.proofs.BlockSteps.{hop_on, named, named_own}
 use Rattle.tj_detect.proofs.blocking.Waiter.look_at_owner.Goals as goal
 
 pub see_owner-first-requires-clause-walks : goal.see_owner-first-requires-clause-walks
@@ -38,13 +37,16 @@ returns-else-u-t-clause-hops g c = λ q way w has.
     (c.look_at_wait.ensures.passes q way (owner_read (Some c.in-Some.u.0) w) there)
 
 pub returns-in-None-clause-log : goal.returns-in-None-clause-log
-returns-in-None-clause-log g c = loads_few 1 3 c.args.seat.now c.see_owner-first.new.seat
-    (loads_owner _ _ c.see_owner-first.ensures.log) (omega arith)
+returns-in-None-clause-log g c =
+    inl (named c.args.p.0 c.args.seat.now c.see_owner-first.new.seat c.in-None.is c.see_owner-first.ensures.log)
 
 pub returns-then-u-t-clause-log : goal.returns-then-u-t-clause-log
-returns-then-u-t-clause-log g c = loads_few 1 3 c.args.seat.now c.see_owner-first.new.seat
-    (loads_owner _ _ c.see_owner-first.ensures.log) (omega arith)
+returns-then-u-t-clause-log g c =
+    named_own c.args.p.0 c.args.self.now.t.0 c.args.seat.now c.see_owner-first.new.seat c.in-Some.is c.if-u-t.true
+    c.see_owner-first.ensures.log
 
 pub returns-else-u-t-clause-log : goal.returns-else-u-t-clause-log
-returns-else-u-t-clause-log g c = loads_on 1 2 3 c.args.seat.now c.see_owner-first.new.seat c.look_at_wait.new.seat
-    (loads_owner _ _ c.see_owner-first.ensures.log) c.look_at_wait.ensures.log (omega arith)
+returns-else-u-t-clause-log g c = let first = c.see_owner-first.new.seat in
+    hop_on c.args.self.now.t.0 c.args.p.0 c.in-Some.u.0 c.look_at_wait.result c.args.seat.now first
+    c.look_at_wait.new.seat c.if-u-t.false
+    (named c.args.p.0 c.args.seat.now first c.in-Some.is c.see_owner-first.ensures.log) c.look_at_wait.ensures.log

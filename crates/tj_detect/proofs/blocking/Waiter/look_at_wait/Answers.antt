@@ -1,9 +1,8 @@
-use Rattle.tj_detect.proofs.Prelude.{MayLoadWait, Some, ap, false, inr, is_owner, owner_number, refl, sym, true, ◌∙◌}
+use Rattle.tj_detect.proofs.Prelude.{MayLoadWait, Some, ap, false, inl, inr, is_owner, owner_number, refl, sym, true, ◌∙◌}
 use Rattle.tj_detect.proofs.Prelude.{◌≡◌}
 use Rattle.tj_words.specs.Steps.StepEvents.{wait_in}
 use Rattle.tj_detect.proofs.WalkReads.{no_wait, at_again, passes_next, has_changed, its_next, walks_at}
-use Rattle.std.proofs.Common.{arith}
-use Rattle.tj_detect.proofs.BlockSteps.{loads_few, loads_on, loads_owner, loads_phase}
+use Rattle.tj_detect.proofs.BlockSteps.{named_again, named_other}
 use Rattle.tj_detect.proofs.blocking.Waiter.look_at_wait.Goals as goal
 
 pub see_owner-again-requires-clause-walks : goal.see_owner-again-requires-clause-walks
@@ -44,15 +43,20 @@ returns-else-is_owner-clause-passes g c = λ q way w has.
     c.tick.ensures _ waits _ _ c.see_owner-again.ensures.view _ c.tick-in-Some.ensures changed
 
 pub returns-in-None-clause-log : goal.returns-in-None-clause-log
-returns-in-None-clause-log g c = loads_few 1 2 c.args.seat.now c.see_phase-found.new.seat
-    (loads_phase _ _ c.see_phase-found.ensures.log) (omega arith)
+returns-in-None-clause-log g c = inl (
+  c.see_phase-found.result,
+  c.wait_of.ensures ∙ ap owner_number c.in-None.is,
+  c.see_phase-found.ensures.log,
+)
 
 pub returns-then-is_owner-clause-log : goal.returns-then-is_owner-clause-log
-returns-then-is_owner-clause-log g c = loads_on 1 1 2 c.args.seat.now c.see_phase-found.new.seat
-    c.see_owner-again.new.seat (loads_phase _ _ c.see_phase-found.ensures.log)
-    (loads_owner _ _ c.see_owner-again.ensures.log) (omega arith)
+returns-then-is_owner-clause-log g c = named_again c.args.p.0 c.args.u.0 c.in-Some.next c.see_phase-found.result
+    c.see_owner-again.result c.args.seat.now c.see_phase-found.new.seat c.see_owner-again.new.seat
+    (c.wait_of.ensures ∙ ap owner_number c.in-Some.is) (sym c.is_owner.ensures ∙ c.if-is_owner.true)
+    c.see_phase-found.ensures.log c.see_owner-again.ensures.log
 
 pub returns-else-is_owner-clause-log : goal.returns-else-is_owner-clause-log
-returns-else-is_owner-clause-log g c = loads_on 1 1 2 c.args.seat.now c.see_phase-found.new.seat
-    c.see_owner-again.new.seat (loads_phase _ _ c.see_phase-found.ensures.log)
-    (loads_owner _ _ c.see_owner-again.ensures.log) (omega arith)
+returns-else-is_owner-clause-log g c = named_other c.args.p.0 c.args.u.0 c.in-Some.next.0 c.see_phase-found.result
+    c.see_owner-again.result c.args.seat.now c.see_phase-found.new.seat c.see_owner-again.new.seat
+    (c.wait_of.ensures ∙ ap owner_number c.in-Some.is) (sym c.is_owner.ensures ∙ c.if-is_owner.false)
+    c.see_phase-found.ensures.log c.see_owner-again.ensures.log

@@ -1,7 +1,7 @@
-use Rattle.tj_detect.proofs.Prelude.{ap, arith, refl, ◌+◌, ◌∙◌, ◌≤◌}
+use Rattle.tj_detect.proofs.Prelude.{ap, arith, ◌+◌, ◌-◌, ◌∙◌, ◌≤◌}
 use Rattle.tj_detect.proofs.WalkLoops.{alarms_next, at_alarm, at_bound, at_ended, on_next, on_way, reads_owner}
 use Rattle.tj_detect.proofs.WalkLoops.{walked_first}
-use Rattle.tj_detect.proofs.BlockSteps.{counted_first, passed_more, walk_alarmed, walk_ended}
+use Rattle.tj_detect.proofs.BlockSteps.{counted_first, passed_more, walk_alarmed, walk_ended, walk_through}
 use Rattle.tj_detect.proofs.blocking.Waiter.walk.Goals as goal
 use Rattle.tj_detect.proofs.WalkReads.{walks_at}
 
@@ -16,7 +16,7 @@ loop-passed-init g c =
             a.seat.now.me.0 c.requires.walks b.result c.tick.new.self b.new.seat.me.0 c.requires.cell b.ensures.view
             c.tick.ensures;
       },
-      counted_first b.ensures.log.0 b.ensures.log.1 b.ensures.log.2,
+      counted_first b.ensures.log.0 b.ensures.log.1 b.ensures.log.2 (omega arith),
     )
 
 pub count-bound-requires-clause-walks : goal.count-bound-requires-clause-walks
@@ -70,7 +70,8 @@ loop-passed-preserved g c =
       on_next i c.loop-passed-test.true c.look_at_owner.new.steps c.look_at_owner.new.seat.me.0
           c.in-Next.next _ (omega arith)
           (c.in-Next.ensures.hops c.args.self.now.q.0 c.args.self.now.way i.walked.walker (on_way i)),
-      passed_more _ c.loop-passed.invariant.2 c.look_at_owner.ensures.log (omega arith) c.loop-passed-test.true,
+      passed_more c.loop-passed.invariant.2 (let less = c.loop-passed-test.true in omega arith)
+          c.in-Next.ensures.log,
     )
 
 pub returns-clause-comes : goal.returns-clause-comes
@@ -80,12 +81,15 @@ returns-clause-comes g c =
     at_bound c.loop-passed.invariant.1 done c.count-bound.ensures.some
 
 pub returns-in-Ended-clause-log : goal.returns-in-Ended-clause-log
-returns-in-Ended-clause-log g c = walk_ended (passed_more (c.loop-passed.passed + 1) c.loop-passed.invariant.2
-    c.look_at_owner.ensures.log refl c.loop-passed-test.true)
+returns-in-Ended-clause-log g c = walk_ended c.loop-passed.invariant.2
+    (c.count-bound.result - (c.loop-passed.passed + 1)) c.args.self.now.way
+    (let less = c.loop-passed-test.true in omega arith) c.in-Ended.ensures.log
 
 pub returns-in-Own-clause-log : goal.returns-in-Own-clause-log
-returns-in-Own-clause-log g c = walk_alarmed (passed_more (c.loop-passed.passed + 1) c.loop-passed.invariant.2
-    c.look_at_owner.ensures.log refl c.loop-passed-test.true) c.put_wait.new.seat c.put_wait.ensures.log
+returns-in-Own-clause-log g c = walk_alarmed c.loop-passed.invariant.2
+    (c.count-bound.result - (c.loop-passed.passed + 1)) c.args.self.now.way c.look_at_owner.new.seat
+    c.put_wait.new.seat (let less = c.loop-passed-test.true in omega arith) c.in-Own.ensures.log c.put_wait.ensures.log
 
 pub returns-clause-log : goal.returns-clause-log
-returns-clause-log g c = walk_ended c.loop-passed.invariant.2
+returns-clause-log g c = walk_through c.loop-passed.invariant.2 c.args.self.now.way
+    (let test = c.loop-passed-test.false in omega arith)

@@ -1,11 +1,7 @@
 use Rattle.std.proofs.Common.{refl, ap, ◌∙◌, arith}
 use Rattle.tj_known.specs.declared.learner.Learner.{Learner}
-use Rattle.tj_known.proofs.WorkSteps.{child_less, child_within, forked}
+use Rattle.tj_known.proofs.WorkSteps.{child_less, forked}
 use Rattle.tj_known.proofs.work.Monitor.fork.Goals as goal
-
-pub fork-requires : goal.fork-requires
-fork-requires c = child_within c.args.self.now.lines.now c.args.self.now.learners.items c.requires.work.lines
-    c.requires.work.under_way c.args.index c.args.child c.requires.next c.index_mut.result.now c.index_mut.ensures.value
 
 pub index_mut-requires-2 : goal.index_mut-requires-2
 index_mut-requires-2 c =

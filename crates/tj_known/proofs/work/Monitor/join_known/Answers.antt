@@ -1,6 +1,6 @@
-use Rattle.std.proofs.Common.{◌∙◌, ◌||◌, Bool, List, length, refl, sym, ap, arith}
+use Rattle.std.proofs.Common.{◌∙◌, ◌||◌, refl, sym, ap, arith}
 use Rattle.tj_known.specs.Inner.Learners.{has_index}
-use Rattle.tj_known.proofs.WorkSteps.{done_again, joined_known, joined_less, joined_waits, index_less, told_wide}
+use Rattle.tj_known.proofs.WorkSteps.{done_again, joined_known, joined_less, joined_waits, index_less}
 use Rattle.tj_known.specs.declared.step.Step.TheVariants as step
 use Rattle.tj_known.proofs.work.Monitor.join_known.Goals as goal
 
@@ -29,13 +29,6 @@ index_mut-requires c =
     let less = index_less c.args.self.now.lines.now c.args.self.now.learners.items c.requires.work.lines
     c.requires.work.under_way c.args.index (step.Join c.args.joined c.args.answered) c.requires.next in
     let long = c.args.self.now.learners.ok.0 in omega arith
-
-pub learn-requires : goal.learn-requires
-learn-requires c = told_wide c.args.self.now.lines.now c.args.self.now.learners.items c.requires.work.lines
-    c.requires.work.under_way c.args.index c.args.joined c.args.answered c.requires.next c.requires.tells
-    c.index_mut.result.now c.index-2.result.now c.index_mut.ensures.value c.index-2.ensures
-    ∙ sym (ap (λ (r : List Bool). length r)
-    (c.as_slice-2.ensures.value ∙ (c.in_ok-told.ensures.items ∙ c.as_slice.ensures.value)))
 
 pub returns : goal.returns
 returns c =

@@ -6,27 +6,27 @@ use Rattle.tj_known.proofs.Beginnings.{AreNew, begins, line_acts_there, more_new
 use Rattle.tj_known.proofs.work.Monitor.new.Goals as goal
 
 pub new_learner-requires-clause-there : goal.new_learner-requires-clause-there
-new_learner-requires-clause-there c = line_acts_there c.args.lines.now c.requires c.loop-line.line-index
-    c.line-item.result c.loop-line-test.true c.line-item.is
+new_learner-requires-clause-there c = line_acts_there c.args.lines.now c.requires c.loop-index.index
+    c.index-lines-index.result c.loop-index-test.true c.index-lines-index.is
 
-pub loop-line-preserved : goal.loop-line-preserved
-loop-line-preserved c =
-    let count = c.loop-line.invariant.count in
+pub loop-index-preserved : goal.loop-index-preserved
+loop-index-preserved c =
+    let count = c.loop-index.invariant.count in
     let more = ap length c.in_ok-push.ensures.items in
-    let one = length-append c.loop-line.learners.items (c.in_ok-new_learner.field-0 ∷ []) in
+    let one = length-append c.loop-index.learners.items (c.in_ok-new_learner.field-0 ∷ []) in
     record {
       count = omega arith;
       new = subst (λ ls. AreNew c.args.lines.now ls) (sym {A = List Learner} c.in_ok-push.ensures.items)
-          (more_new c.args.lines.now c.loop-line.learners.items c.loop-line.line-index c.line-item.result
-          c.in_ok-new_learner.field-0 c.loop-line.invariant.count c.loop-line.invariant.new c.loop-line-test.true
-          c.line-item.is c.in_ok-new_learner.ensures);
+          (more_new c.args.lines.now c.loop-index.learners.items c.loop-index.index c.index-lines-index.result
+          c.in_ok-new_learner.field-0 c.loop-index.invariant.count c.loop-index.invariant.new c.loop-index-test.true
+          c.index-lines-index.is c.in_ok-new_learner.ensures);
     }
 
 pub returns-clause-work : goal.returns-clause-work
 returns-clause-work c =
-    let count = c.loop-line.invariant.count in
-    let end = c.loop-line-test.false in
-    let most = c.loop-line.auto.line-index-end in record {
+    let count = c.loop-index.invariant.count in
+    let end = c.loop-index-test.false in
+    let most = c.loop-index.auto.index-end in record {
       lines = c.requires;
-      under_way = begins c.args.lines.now c.requires c.loop-line.learners.items (omega arith) c.loop-line.invariant.new;
+      under_way = begins c.args.lines.now c.requires c.loop-index.learners.items (omega arith) c.loop-index.invariant.new;
     }

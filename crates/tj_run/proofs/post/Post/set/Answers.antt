@@ -1,4 +1,5 @@
 use Rattle.tj_run.proofs.Prelude.{Bool, CellId, Goes, Program, Rec, WakesAll, ap, program_of, refl, subst, sym, ◌∙◌}
+use Rattle.tj_park.proofs.WakeLogs.{wake_grows}
 use Rattle.tj_park.specs.Wakes.{WakesSome}
 use Rattle.tj_body.specs.declared.ask.Answer.TheVariants as answer
 use Rattle.tj_cells.specs.FilledCells.{IsFilledWith}
@@ -79,8 +80,8 @@ returns-in_err-wake-clause-stays g c = let at = goal.at.returns-in_err-wake-clau
     let to = to_set g at.After-at-h in let promise = promise_if _ c.in_default.not-Task in
     let found = c.take_out.ensures.found.0 c.if-not-take_out.false in let is = c.fill_at-value.ensures in
     let h = c.at-h.result in
-    let some : WakesSome g.P.Pool.puts g.P.Pool.same h.cell.0 c.fill.new.seat.me.0
-    c.wake.new.seat.me.0 c.args.self.now.pool c.wake.new.pool = c.in_err-wake.ensures.memory in (
+    let some : WakesSome g.P.Pool.puts g.P.Pool.same h.cell.0 c.fill.new.seat
+    c.wake.new.seat c.args.self.now.pool c.wake.new.pool = c.in_err-wake.ensures.memory in (
       ap (λ (z : Rec g.row.B.Denot). z.body) c.take_out.ensures.others,
       (
         (c.wake.ensures.seat.0 ∙ c.fill.ensures.seat.0, c.wake.ensures.limit),
@@ -96,8 +97,8 @@ returns-in_err-wake-clause-stays g c = let at = goal.at.returns-in_err-wake-clau
 pub returns-clause-goes : goal.returns-clause-goes
 returns-clause-goes g c = let at = goal.at.returns-clause-goes g c in
     let h = c.at-h.result in
-    let woke : WakesAll g.P.Pool.puts h.cell.0 c.in_ok-wake.field-0 c.fill.new.seat.me.0
-    c.wake.new.seat.me.0 c.args.self.now.pool c.wake.new.pool = c.in_ok-wake.ensures.woke in
+    let woke : WakesAll g.P.Pool.puts h.cell.0 c.in_ok-wake.field-0 c.fill.new.seat
+    c.wake.new.seat c.args.self.now.pool c.wake.new.pool = c.in_ok-wake.ensures.woke in
     subst (λ (z : Rec g.row.B.Denot). Goes (program g) c.args.laid.now next.Runs z c.args.self.now.seat.me.0
     c.wake.new.seat.me)
     (sym (c.set_answer.ensures ∙ ap (λ (z : Rec g.row.B.Denot). record z { answer = answer.Done })
@@ -115,9 +116,13 @@ pub returns-then-not-take_out-clause-log : goal.returns-then-not-take_out-clause
 returns-then-not-take_out-clause-log g c = still c.args.self.now.seat
 
 pub returns-in_err-wake-clause-log : goal.returns-in_err-wake-clause-log
-returns-in_err-wake-clause-log g c = grows_on c.args.self.now.seat c.fill.new.seat c.wake.new.seat
-    (closed_grows c.args.self.now.seat c.fill.new.seat _ _ c.fill.ensures.log) c.wake.ensures.log
+returns-in_err-wake-clause-log g c = let k = c.in_err-wake.ensures.memory in
+    grows_on c.args.self.now.seat c.fill.new.seat c.wake.new.seat
+    (closed_grows c.args.self.now.seat c.fill.new.seat _ _ c.fill.ensures.log)
+    (wake_grows _ _ _ c.fill.new.seat c.wake.new.seat k.steps)
 
 pub returns-clause-log : goal.returns-clause-log
-returns-clause-log g c = grows_on c.args.self.now.seat c.fill.new.seat c.wake.new.seat
-    (closed_grows c.args.self.now.seat c.fill.new.seat _ _ c.fill.ensures.log) c.wake.ensures.log
+returns-clause-log g c = let k = c.in_ok-wake.ensures.woke in
+    grows_on c.args.self.now.seat c.fill.new.seat c.wake.new.seat
+    (closed_grows c.args.self.now.seat c.fill.new.seat _ _ c.fill.ensures.log)
+    (wake_grows _ _ _ c.fill.new.seat c.wake.new.seat k.steps)

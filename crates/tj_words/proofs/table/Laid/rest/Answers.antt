@@ -10,6 +10,9 @@ invariant_of-result-3 g c = let a = c.args.self in let shown = c.show_cells-show
       c.cycles_are_watched.ensures c.alarms_are_on_cycles.ensures c.rest_is_meaning.ensures
       c.meaning_is_last.ensures).are_slots,
   omega arith,
+  (rested c.close_with-table.ensures.values.2 c.requires.may a.key_cells a.key_strict a.key_root shown
+      c.cycles_are_watched.ensures c.alarms_are_on_cycles.ensures c.rest_is_meaning.ensures
+      c.meaning_is_last.ensures).closed,
 )
 
 pub returns : goal.returns
@@ -26,6 +29,7 @@ returns g c = let a = c.args.self in let shown = c.show_cells-shown.ensures in l
       cycles = r.cycles;
       alarms = r.alarms;
       meant_cycles = meant_cycles_alarmed _ _ _ r.cycles;
+      values = r.values;
       run = ends_run _ a.table.shared.key c.args.seat c.close_with-table.ensures.run a.key_cells a.key_strict
           a.key_root shown;
     }

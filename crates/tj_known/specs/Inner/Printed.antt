@@ -1,0 +1,14 @@
+-- A name with its text.
+use Rattle.std.specs.Prelude.{◌≡◌}
+use Rattle.tj_base.specs.ForkOrder.{Name}
+use Rattle.tj_base.specs.Texts.{name_text}
+use Rattle.tj_known.specs.declared.text.Printed.{Printed}
+
+-- the text is that of the name
+abbrev pub IsPrinted : Printed → Type 0
+IsPrinted p = p.text.items ≡ name_text p.name
+
+-- this name with its text
+pub record IsPrintedOf (t : Name) (p : Printed) : Type 0 where
+  pub name : p.name ≡ t
+  pub printed : p.text.items ≡ name_text t

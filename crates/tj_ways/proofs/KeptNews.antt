@@ -1,0 +1,30 @@
+-- What a listener has kept after calls of which each that was answered On added what it told.
+use Rattle.std.proofs.Common.{◌≡◌, ◌++◌, ◌∷◌, [], List, Result, Ok, IfOk, sym, ap, ◌∙◌, subst, append_assoc}
+use Rattle.std.proofs.lemmas.List.{append-nil}
+use Rattle.tj_mean.specs.declared.outcome.Outcome.{Outcome}
+use Rattle.tj_told.specs.Hearing.{HasHeard, Hears}
+use Rattle.tj_told.specs.ToldNews.{AreApart, AreTold}
+use Rattle.tj_told.specs.declared.fault.ToldFault.{ToldFault}
+use Rattle.tj_told.specs.declared.listener.Goes.{Goes}
+use Rattle.tj_told.specs.declared.listener.Goes.TheVariants as goes
+use Rattle.tj_told.specs.declared.news.News.{News}
+use Rattle.tj_ways.specs.declared.kept.Kept.{Kept}
+
+module _ (tells : Kept → News → Goes → Kept → Type 0)
+    (adds : (s : Kept) (n : News) (t : Kept) → tells s n goes.On t → t.news ≡ s.news ++ n ∷ []) where
+  -- what the calls told, behind that from before
+  kept_after : (ns : List News) (s t : Kept) → HasHeard tells ns s t → t.news ≡ s.news ++ ns
+  kept_after [] s t e = ap (λ (z : Kept). z.news) (sym e) ∙ sym (append-nil s.news)
+  kept_after (n ∷ ns) s t h =
+      kept_after ns h.0 t h.2 ∙ (ap (λ z. z ++ ns) (adds s n h.0 h.1) ∙ append_assoc s.news (n ∷ []) ns)
+
+  -- so one that had nothing has the outcome's
+  pub kept_all : (s t : Kept) (r : Result Outcome ToldFault) (o : Outcome) → s.news ≡ [] → r ≡ Ok o
+      → IfOk r (λ (z : Outcome). (ns : List News) × Hears tells ns s t × AreTold ns z)
+      → AreTold t.news o × AreApart t.news
+  kept_all s t r o none is h =
+      let k : IfOk {E = ToldFault} (Ok o) (λ (z : Outcome). (ns : List News) × Hears tells ns s t
+      × AreTold ns z) = subst (λ (z : Result Outcome ToldFault). IfOk z (λ (z : Outcome). (ns : List News)
+      × Hears tells ns s t × AreTold ns z)) is h in
+      subst (λ z. AreTold z o × AreApart z)
+      (sym (kept_after k.0 s t k.1.calls ∙ ap (λ z. z ++ k.0) none)) (k.2, k.1.apart)
