@@ -19,6 +19,13 @@ SEVERAL = (
 IN_A_LOOP = ("task main() {\r\n\tlet i = 0;\r\n\twhile i < 2 {\r\n\t\tfork f(i);\r\n\t\ti = i + 1;\r\n\t}\r\n}\r\n"
              "task f(n) { if n == 1 { get me; } }")
 
+# Tasks that wait for a promise of a task that waits for itself.
+MANY = ("task main() {\n  let p = new;\n  let i = 0;\n  while i < 30 { fork client(p); i = i + 1; }\n  get p;\n}\n"
+        "task client(p) { get p; }\n")
+# Failures at one statement, and two tasks that wait for themselves, forked at two.
+CROWD = ("task main() {\n  let i = 0;\n  while i < 3 { fork client(i); i = i + 1; }\n  fork loner();\n  fork loner();\n"
+         "}\ntask client(i) { let p = new; let x = 1 / 0; }\ntask loner() { let p = new; get p; }\n")
+
 # A cycle of two, and a task that waits behind it.
 DEADLOCK = ("task main() {\n  let p = new;\n  let q = new;\n  fork a(own p, q);\n  fork a(own q, p);\n  let x = get p;\n}\n"
             "task a(mine, other) {\n\tlet z = get other; set mine = z;\n}\n")
@@ -43,7 +50,7 @@ TOLD = (
      "  0.4 (task left(0.2, 0.1), forked at 9:57) waits at 2:10 for the promise 0.1 (made at 5:11), which 0.3.1 owns\n"
      "failed: 0 (task main) at 16:18: kind\n"
      "failed: 0.6 (task faulty(0.5), forked at 14:11) at 23:47: owner 0.5 (made at 13:11), handed twice here\n"
-     "owed: the promise 0.5 (made at 13:11) was never set: "
+     "  owed: the promise 0.5 (made at 13:11) was never set: "
      "0.6 (task faulty(0.5), forked at 14:11) owned it and failed at 23:47\n"),
     ("a task at its second wait, and a promise that was set", "--short",
      "task main() {\n  let p = new; let q = new;\n  set p = 1;\n  let a = get p; let b = get q;\n}",
@@ -70,12 +77,70 @@ TOLD = (
      "task main() { let i = 0; while i < 2 { if i { while 1 { let x = new; set x = 1 / 0; } } "
      "else { fork g(); } i = i + 1; } } task g() { return 1; }",
      "failed: 0 (task main) at 1:70: arith\n"
-     "owed: the promise 0.2 (made at 1:65) was never set: 0 (task main) owned it and failed at 1:70\n"),
+     "  owed: the promise 0.2 (made at 1:65) was never set: 0 (task main) owned it and failed at 1:70\n"),
     ("a condition that is no number", "--short", "task main() { let p = new; while p { } }",
      "failed: 0 (task main) at 1:28: kind\n"
-     "owed: the promise 0.1 (made at 1:23) was never set: 0 (task main) owned it and failed at 1:28\n"),
+     "  owed: the promise 0.1 (made at 1:23) was never set: 0 (task main) owned it and failed at 1:28\n"),
     ("a block that isn't taken", "", "task main() { let p = new; if 0 { while 1 { print 1; } } }",
      "owed: the promise 0.1 (made at 1:23) was never set: 0 (task main) owned it and ended at 1:58\n"),
+    ("a set without the right to it before the cycle that waits for it", "--short",
+     "task main() {\n  let p = new;\n  fork f(own p);\n  fork g(p);\n  set p = 1;\n}\n"
+     "task f(q) { get q; }\ntask g(q) { get q; }\n",
+     "failed: 0 (task main) at 5:3: owner 0.1 (made at 2:11), handed to 0.2 at 3:3\n"
+     "deadlock: 1 task waits for itself\n"
+     "  0.2 (task f(0.1), forked at 3:3) waits at 7:13 for the promise 0.1 (made at 2:11), which 0.2 owns\n"
+     "  behind a deadlock: 0.3 (task g(0.1), forked at 4:3) waits at 8:13 for the promise 0.1 (made at 2:11), "
+     "which 0.2 owns\n"),
+    ("echoes below the failure with which they began, and what failed tasks owed", "--short",
+     "task main() {\n  let t = fork bad();\n  let u = fork mid(t);\n  fork last(u);\n}\n"
+     "task bad() { let p = new; let x = 1 / 0; }\ntask mid(t) { let p = new; join t; }\n"
+     "task last(u) { join u; }\n",
+     "failed: 0.1 (task bad, forked at 2:11) at 6:27: arith\n"
+     "  owed: the promise 0.1.1 (made at 6:22) was never set: 0.1 (task bad, forked at 2:11) owned it and "
+     "failed at 6:27\n"
+     "  failed: 0.2 (task mid(0.1), forked at 3:11) at 7:28: broken 0.1 (made at 2:11), at first from 0.1, "
+     "which failed at 6:27\n"
+     "  owed: the promise 0.2.1 (made at 7:23) was never set: 0.2 (task mid(0.1), forked at 3:11) owned it and "
+     "failed at 7:28\n"
+     "  failed: 0.3 (task last(0.2), forked at 4:3) at 8:16: broken 0.2 (made at 3:11), at first from 0.1, "
+     "which failed at 6:27\n"),
+    ("many that are alike: waits behind a task that waits for itself", "--short", MANY,
+     "deadlock: 1 task waits for itself\n"
+     "  0 (task main) waits at 5:3 for the promise 0.1 (made at 2:11), which 0 owns\n"
+     "  behind a deadlock: 0.2, 0.3 and 28 more of task client (forked at 4:18) wait at 7:18 for the promise 0.1 "
+     "(made at 2:11), which 0 owns\n"),
+    ("many failures, their debts, and cycles that are alike", "--short", CROWD,
+     "deadlock: 2 times 1 task waits for itself\n"
+     "  0.4 and 0.5 of task loner wait at 8:29 for promises (made at 8:24)\n"
+     "failed: 0.1, 0.2 and 1 more of task client (forked at 3:17) at 7:31: arith\n"
+     "  owed: the promises 0.1.1, 0.2.1 and 1 more (made at 7:26) were never set: "
+     "task client owned each and failed at 7:31\n"),
+    ("the same, each told by itself", "--all --short", CROWD,
+     "deadlock: 1 task waits for itself\n"
+     "  0.4 (task loner, forked at 4:3) waits at 8:29 for the promise 0.4.1 (made at 8:24), which 0.4 owns\n"
+     "deadlock: 1 task waits for itself\n"
+     "  0.5 (task loner, forked at 5:3) waits at 8:29 for the promise 0.5.1 (made at 8:24), which 0.5 owns\n"
+     "failed: 0.1 (task client(0), forked at 3:17) at 7:31: arith\n"
+     "  owed: the promise 0.1.1 (made at 7:26) was never set: 0.1 (task client(0), forked at 3:17) owned it and "
+     "failed at 7:31\n"
+     "failed: 0.2 (task client(1), forked at 3:17) at 7:31: arith\n"
+     "  owed: the promise 0.2.1 (made at 7:26) was never set: 0.2 (task client(1), forked at 3:17) owned it and "
+     "failed at 7:31\n"
+     "failed: 0.3 (task client(2), forked at 3:17) at 7:31: arith\n"
+     "  owed: the promise 0.3.1 (made at 7:26) was never set: 0.3 (task client(2), forked at 3:17) owned it and "
+     "failed at 7:31\n"),
+    ("promises of one task that one statement made", "--short",
+     "task main() {\n  let i = 0;\n  while i < 3 { let p = new; i = i + 1; }\n}\n",
+     "owed: the promises 0.1, 0.2 and 1 more (made at 3:25) were never set: 0 (task main) owned them and "
+     "ended at 4:1\n"),
+    ("promises that were set at one statement, and set once more", "--short",
+     "task main() {\n  fork f();\n  fork f();\n}\ntask f() {\n  let p = new;\n  set p = 1;\n  set p = 2;\n}\n",
+     "failed: 0.1 and 0.2 of task f at 8:3: owner (made at 6:11), set at 7:3\n"),
+    ("promises that went to two tasks, which owed them", "--short",
+     "task main() {\n  fork f();\n  fork f();\n}\ntask f() {\n  let p = new;\n  fork g(own p);\n  set p = 2;\n}\n"
+     "task g(p) { }\n",
+     "failed: 0.1 and 0.2 of task f at 8:3: owner (made at 6:11)\n"
+     "owed: the promises 0.1.1 and 0.2.1 (made at 6:11) were never set: task g owned each and ended at 10:13\n"),
     ("source lines below a cycle's members, and none below a wait behind it", "", DEADLOCK,
      "deadlock: 2 tasks wait for each other\n"
      "  0.3 (task a(0.1, 0.2), forked at 4:3) waits at 9:10 for the promise 0.2 (made at 3:11), which 0.4 owns\n"
@@ -84,13 +149,18 @@ TOLD = (
      "  0.4 (task a(0.2, 0.1), forked at 5:3) waits at 9:10 for the promise 0.1 (made at 2:11), which 0.3 owns\n"
      "\tlet z = get other; set mine = z;\n"
      "\t        ^\n"
-     "behind a deadlock: 0 (task main) waits at 6:11 for the promise 0.1 (made at 2:11), which 0.3 owns\n"),
+     "  behind a deadlock: 0 (task main) waits at 6:11 for the promise 0.1 (made at 2:11), which 0.3 owns\n"),
     ("a source line below a failure, with a tab and a carriage return, and none below its echo", "",
      "task main() {\r\n\tlet t = fork f();\r\n\tjoin t;\r\n}\r\ntask f() {\r\n\tlet x = 1 / 0;\r\n}\r\n",
      "failed: 0.1 (task f, forked at 2:10) at 6:2: arith\n"
      "\tlet x = 1 / 0;\r\n"
      "\t^\n"
-     "failed: 0 (task main) at 3:2: broken 0.1 (made at 2:10), at first from 0.1, which failed at 6:2\n"),
+     "  failed: 0 (task main) at 3:2: broken 0.1 (made at 2:10), at first from 0.1, which failed at 6:2\n"),
+    ("one source line below failures that are alike", "", "task main() {\n  fork f();\n  fork f();\n}\n"
+     "task f() { return 1 / 0; }\n",
+     "failed: 0.1 and 0.2 of task f at 5:12: arith\n"
+     "task f() { return 1 / 0; }\n"
+     "           ^\n"),
     ("a source line below each failure", "--all", "task main() {\n  fork f();\n  fork f();\n}\n"
      "task f() { return 1 / 0; }\n",
      "failed: 0.1 (task f, forked at 2:3) at 5:12: arith\n"
@@ -108,21 +178,21 @@ TOLD = (
      '{"kind":"fine","tasks":2}\n'),
     ("too few cells, as an object", "--all --json --cells 1", OWED, '{"kind":"full","cells":1}\n'),
     ("a cycle and a wait behind it, as objects", "--json", DEADLOCK,
-     '{"kind":"deadlock","waits":['
+     '{"kind":"deadlock","level":0,"waits":['
      '{"task":{"name":"0.3","task":"a","forked":"4:3","stopped":"waits","at":"9:10"},'
      '"cell":{"name":"0.2","sort":"promise","made":"3:11"},"owner":"0.4"},'
      '{"task":{"name":"0.4","task":"a","forked":"5:3","stopped":"waits","at":"9:10"},'
      '"cell":{"name":"0.1","sort":"promise","made":"2:11"},"owner":"0.3"}]}\n'
-     '{"kind":"behind","wait":'
+     '{"kind":"behind","level":1,"wait":'
      '{"task":{"name":"0","task":"main","forked":null,"stopped":"waits","at":"6:11"},'
      '"cell":{"name":"0.1","sort":"promise","made":"2:11"},"owner":"0.3"}}\n'),
     ("failures, an echo and a promise that is owed, as objects", "--all --json --short",
      "task main() {\n  let t = fork bad();\n  join t;\n}\ntask bad() { let p = new; let x = 1 / 0; }\n",
-     '{"kind":"failed","task":{"name":"0.1","task":"bad","forked":"2:11","stopped":"failed","at":"5:27"},'
+     '{"kind":"failed","level":0,"task":{"name":"0.1","task":"bad","forked":"2:11","stopped":"failed","at":"5:27"},'
      '"cause":"arith","cell":null}\n'
-     '{"kind":"owed","cell":{"name":"0.1.1","sort":"promise","made":"5:22"},'
+     '{"kind":"owed","level":1,"cell":{"name":"0.1.1","sort":"promise","made":"5:22"},'
      '"task":{"name":"0.1","task":"bad","forked":"2:11","stopped":"failed","at":"5:27"}}\n'
-     '{"kind":"echo","task":{"name":"0","task":"main","forked":null,"stopped":"failed","at":"3:3"},'
+     '{"kind":"echo","level":1,"task":{"name":"0","task":"main","forked":null,"stopped":"failed","at":"3:3"},'
      '"cell":{"name":"0.1","sort":"task","made":"2:11"},'
      '"origin":{"name":"0.1","task":"bad","forked":"2:11","stopped":"failed","at":"5:27"}}\n'),
     ("a promise set twice by one task", "--short", "task main() {\n  let p = new;\n  set p = 1;\n  set p = 2;\n}\n",

@@ -1,0 +1,22 @@
+-- One step of what goes on for so many steps, or for all elements of a list.
+use Rattle.std.proofs.Common.{◌≡◌, ◌<◌, ◌-◌, ◌+◌, ◌∙◌, ℕ, zero, suc, List, [], ◌∷◌, ◌++◌}
+use Rattle.std.proofs.Common.{length, take, get_or, ap, sym, arith}
+use Rattle.std.proofs.lemmas.List.{flat_map_more, take_more}
+use Rattle.std.specs.List.{flat_map}
+use Rattle.tj_explain.specs.Carets.{behind_lines, next_line}
+
+-- one line more
+pub one_line : (n : ℕ) (text : List ℕ) → 0 < n → behind_lines n text ≡ behind_lines (n - 1) (next_line text)
+one_line zero text some = search (arith, some)
+one_line (suc n) text some = let same : suc n - 1 ≡ n = omega arith in
+    ap (λ k. behind_lines k (next_line text)) (sym same)
+
+-- the text of one element more
+pub text_more : {A : Type 0} (f : A → List ℕ) (xs : List A) (n : ℕ) (x : A) (old new part added : List ℕ)
+    → n < length xs → old ≡ flat_map f (take n xs) → x ≡ get_or xs n x → added ≡ f x → part ≡ added
+    → new ≡ old ++ part → new ≡ flat_map f (take (n + 1) xs)
+text_more f xs n x old new part added within so_far is told same grown =
+    grown ∙ ap (λ z. old ++ z) (same ∙ told) ∙ ap (λ z. z ++ f x) so_far
+    ∙ flat_map_more f [] (take n xs) x
+    ∙ ap (λ z. flat_map f (take n xs ++ z ∷ [])) is
+    ∙ ap (flat_map f) (sym (take_more xs n x within))

@@ -1,0 +1,22 @@
+use Rattle.std.proofs.Common.{◌-◌, ◌≡◌, ap, arith, map, subst, ◌∙◌}
+use Rattle.tj_explain.specs.Inner.Jumps.{AreJumps, jump}
+use Rattle.tj_explain.proofs.JumpsDoubled.{doubled_more, often}
+use Rattle.tj_explain.proofs.jumps.doubled_often.Goals as goal
+
+pub loop-left-preserved : goal.loop-left-preserved
+loop-left-preserved c =
+    let l = c.loop-left in
+    let some = c.loop-left-test.true in
+    let few = l.invariant.1 in (
+      λ lines f are. doubled_more lines f (21 - l.left) (21 - (l.left - 1)) l.jumps.items c.in_ok-jumps.jumps.items
+          (c.in_ok-jumps.ensures ∙ ap (λ js. map (jump js) js) c.as_slice.ensures.value) (omega arith)
+          (l.invariant.0 lines f are),
+      omega arith,
+    )
+
+pub returns : goal.returns
+returns c = λ lines f are.
+    let ended = c.loop-left-test.false in
+    let none : c.loop-left.left ≡ 0 = omega arith in
+    subst (λ k. AreJumps lines f k c.loop-left.jumps.items) (often c.loop-left.left none)
+    (c.loop-left.invariant.0 lines f are)

@@ -1,0 +1,27 @@
+use Rattle.std.proofs.Common.{ap, subst, sym, ◌∙◌}
+use Rattle.tj_command.specs.Statuses.{status_of}
+use Rattle.tj_syntax.specs.PlacesOf as places
+use Rattle.tj_syntax.specs.View as view
+use Rattle.tj_trace.specs.Logs.{logged_program}
+use Rattle.tj_trace.specs.Traces.{AreTraced}
+use Rattle.tj_explain.proofs.ToldInputs.{ended_told}
+use Rattle.tj_explain.proofs.told.told_traced.Goals as goal
+
+-- the lines of a trace are in name order
+pub why_text-requires : goal.why_text-requires
+why_text-requires c =
+    let limits = c.args.command.limits in
+    let traced = subst (AreTraced (logged_program limits.strict c.args.root.now) limits.cells) (sym c.items.ensures)
+    c.in-Ok.ensures.traced in
+    traced.in_name_order
+
+pub returns : goal.returns
+returns c =
+    let limits = c.args.command.limits in
+    let traced = subst (AreTraced (logged_program limits.strict c.args.root.now) limits.cells) (sym c.items.ensures)
+    c.in-Ok.ensures.traced in
+    ended_told c.args.command c.args.text.now (view.script c.args.script.now) c.args.tokens.now c.args.root.now
+    c.args.outcome.now
+    c.items.result.now (places.view c.in_ok-places.places) c.status_of.result c.in_ok-why_text.field-0.items
+    c.requires.fits c.requires.outcome traced c.in_ok-places.ensures
+    (c.status_of.ensures ∙ ap status_of c.marked.ensures) c.in_ok-why_text.ensures

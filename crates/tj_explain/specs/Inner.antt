@@ -1,0 +1,7 @@
+-- What only the functions inside the crate speak of. No public clause does.
+pub mod Readings
+pub mod Joined
+pub mod Numbers
+pub mod Jumps
+pub mod Ranks
+pub mod GroupViews

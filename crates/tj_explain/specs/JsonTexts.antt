@@ -1,0 +1,215 @@
+-- What went wrong with a run, as objects of JSON: one of each finding, a line each, in the order of the text: a cause,
+-- and behind it what follows from it.
+use Rattle.std.specs.Prelude.{ℕ, ◌||◌, nat_eq, cond, List, [], ◌∷◌, ◌++◌, codes, decimal, length, slice_get}
+use Rattle.std.specs.Prelude.{Option, Some, None}
+use Rattle.std.specs.List.{flat_map}
+use Rattle.tj_base.specs.ForkOrder.{Name}
+use Rattle.tj_base.specs.Texts.{name_text}
+use Rattle.tj_base.specs.declared.cause.Cause.{Cause}
+use Rattle.tj_base.specs.declared.cause.Cause.TheVariants as cause
+use Rattle.tj_lex.specs.declared.place.Place.{Place}
+use Rattle.tj_lex.specs.declared.token.LexFault.{LexFault}
+use Rattle.tj_lex.specs.declared.token.LexFault.TheVariants as lex
+use Rattle.tj_lex.specs.declared.token.Token.{Token}
+use Rattle.tj_mean.specs.Outcomes.{is_marked}
+use Rattle.tj_mean.specs.declared.outcome.Outcome.{Outcome}
+use Rattle.tj_syntax.specs.ScriptTexts.{position_of}
+use Rattle.tj_syntax.specs.declared.fault.ParseFault.{ParseFault}
+use Rattle.tj_syntax.specs.declared.fault.ParseFault.TheVariants as parse
+use Rattle.tj_syntax.specs.declared.script_text.NoScript.{NoScript}
+use Rattle.tj_syntax.specs.declared.script_text.NoScript.TheVariants.{Long, Tokens, Grammar}
+use Rattle.tj_trace.specs.declared.line.Maker.{Maker}
+use Rattle.tj_trace.specs.declared.line.TraceLine.{TraceLine}
+use Rattle.tj_explain.specs.FaultWords.{fault_words}
+use Rattle.tj_explain.specs.Forests.{Forest, Tree, forest_of}
+use Rattle.tj_explain.specs.Scenes.{Told, found_text, name_of, spot_text, stop_text}
+use Rattle.tj_explain.specs.WhyTexts.{cause_word, is_promise, stopped_word}
+use Rattle.tj_explain.specs.declared.finding.Finding.{Finding}
+use Rattle.tj_explain.specs.declared.finding.Finding.TheVariants as finding
+use Rattle.tj_explain.specs.declared.finding.ToldCell.{ToldCell}
+use Rattle.tj_explain.specs.declared.finding.ToldTask.{ToldTask}
+use Rattle.tj_explain.specs.declared.finding.Wait.{Wait}
+
+-- a text in quotes, where it has no quote and no backslash
+abbrev pub quoted : List ℕ → List ℕ
+quoted text = codes "\"" ++ text ++ codes "\""
+
+-- a byte in a string: a quote and a backslash stand behind a backslash
+abbrev pub escaped : ℕ → List ℕ
+escaped b = cond (nat_eq b 34 || nat_eq b 92) (92 ∷ b ∷ []) (b ∷ [])
+
+-- the position of a statement, if there is one
+abbrev pub spot_json : Told → Option Maker → List ℕ
+spot_json s None = codes "null"
+spot_json s (Some m) = quoted (spot_text s m.decl m.at)
+
+-- a name, if there is one
+abbrev pub name_json : Option Name → List ℕ
+name_json None = codes "null"
+name_json (Some x) = quoted (name_text x)
+
+-- the sort of a cell
+abbrev pub sort_json : Option Maker → List ℕ
+sort_json m = cond (is_promise m) (codes "promise") (codes "task")
+
+-- a cell with the statement that made it
+abbrev pub cell_json : Told → Name → Option Maker → List ℕ
+cell_json s x m = codes "{\"name\":" ++ quoted (name_text x) ++ codes ",\"sort\":" ++ quoted (sort_json m)
+    ++ codes ",\"made\":" ++ spot_json s m ++ codes "}"
+
+-- how and where a task stopped
+abbrev pub stop_json : Told → ToldTask → List ℕ
+stop_json s t = quoted (stopped_word t.stop) ++ codes ",\"at\":" ++ quoted (stop_text s t)
+
+-- a task with its declaration, its fork, and how and where it stopped
+abbrev pub task_json : Told → ToldTask → List ℕ
+task_json s t = codes "{\"name\":" ++ quoted (name_text t.name)
+    ++ codes ",\"task\":" ++ quoted (name_of (slice_get s.script t.decl)) ++ codes ",\"forked\":" ++ spot_json s t.fork
+    ++ codes ",\"stopped\":" ++ stop_json s t ++ codes "}"
+
+-- the same of a task, if there is one
+abbrev pub task_if_json : Told → Option ToldTask → List ℕ
+task_if_json s None = codes "null"
+task_if_json s (Some t) = task_json s t
+
+-- a cell for which a task waits, and its owner
+abbrev pub awaited_json : Told → ToldCell → Option Name → List ℕ
+awaited_json s q o = cell_json s q.name q.maker ++ codes ",\"owner\":" ++ name_json o
+
+-- a wait of a task for a cell that has this owner
+abbrev pub parts_json : Told → ToldTask → ToldCell → Option Name → List ℕ
+parts_json s t q o = codes "{\"task\":" ++ task_json s t ++ codes ",\"cell\":" ++ awaited_json s q o ++ codes "}"
+
+-- a wait: the task, the cell, and its owner
+abbrev pub wait_json : Told → Wait → List ℕ
+wait_json s w = parts_json s w.task w.cell w.owner
+
+-- further waits, a comma before each
+abbrev pub more_waits : Told → Wait → List ℕ
+more_waits s w = codes "," ++ wait_json s w
+
+-- waits, with commas between them
+abbrev pub waits_json : Told → List Wait → List ℕ
+waits_json s [] = []
+waits_json s (w ∷ ws) = wait_json s w ++ flat_map (more_waits s) ws
+
+-- the cell that a cause names, if it names one
+abbrev pub named_json : Told → Cause → Option Maker → List ℕ
+named_json s cause.Arith m = codes "null"
+named_json s cause.Kind m = codes "null"
+named_json s cause.Steps m = codes "null"
+named_json s (cause.Owner q) m = cell_json s q m
+named_json s (cause.Broken q) m = cell_json s q m
+named_json s (cause.Order q) m = cell_json s q m
+
+-- the beginning of an object of this kind
+abbrev pub begin : List ℕ → List ℕ
+begin kind = codes "{\"kind\":" ++ quoted kind
+
+-- the beginning of an object of this kind for a finding: a cause has level 0, and what follows from it level 1
+abbrev pub begin_at : ℕ → List ℕ → List ℕ
+begin_at n kind = begin kind ++ codes ",\"level\":" ++ decimal n
+
+-- a cycle
+abbrev pub cycle_json : Told → ℕ → List Wait → List ℕ
+cycle_json s n waits =
+    begin_at n (codes "deadlock") ++ codes ",\"waits\":[" ++ waits_json s waits ++ codes "]}\n"
+
+-- a wait behind a cycle
+abbrev pub behind_json : Told → ℕ → Wait → List ℕ
+behind_json s n w = begin_at n (codes "behind") ++ codes ",\"wait\":" ++ wait_json s w ++ codes "}\n"
+
+-- a cause, and the cell that it names
+abbrev pub cause_json : Told → Cause → Option Maker → List ℕ
+cause_json s c m = quoted (cause_word c) ++ codes ",\"cell\":" ++ named_json s c m
+
+-- a failure that is no echo
+abbrev pub failed_json : Told → ℕ → ToldTask → Cause → Option Maker → List ℕ
+failed_json s n t c m = begin_at n (codes "failed") ++ codes ",\"task\":" ++ task_json s t
+    ++ codes ",\"cause\":" ++ cause_json s c m ++ codes "}\n"
+
+-- what is told of a promise that was owed, behind its level
+abbrev pub owed_parts : Told → ToldCell → ToldTask → List ℕ
+owed_parts s q t =
+    codes ",\"cell\":" ++ cell_json s q.name q.maker ++ codes ",\"task\":" ++ task_json s t ++ codes "}\n"
+
+-- a promise that was owed
+abbrev pub owed_json : Told → ℕ → ToldCell → ToldTask → List ℕ
+owed_json s n q t = begin_at n (codes "owed") ++ owed_parts s q t
+
+-- a broken cell, and the task where an echo began
+abbrev pub began_json : Told → ToldCell → Option ToldTask → List ℕ
+began_json s q o = cell_json s q.name q.maker ++ codes ",\"origin\":" ++ task_if_json s o
+
+-- what is told of an echo behind its level
+abbrev pub echo_parts : Told → ToldTask → ToldCell → Option ToldTask → List ℕ
+echo_parts s t q o =
+    codes ",\"task\":" ++ task_json s t ++ codes ",\"cell\":" ++ began_json s q o ++ codes "}\n"
+
+-- an echo
+abbrev pub echo_json : Told → ℕ → ToldTask → ToldCell → Option ToldTask → List ℕ
+echo_json s n t q o = begin_at n (codes "echo") ++ echo_parts s t q o
+
+-- a finding of this level
+abbrev pub finding_json : Told → ℕ → Finding → List ℕ
+finding_json s n (finding.Cycle waits) = cycle_json s n waits
+finding_json s n (finding.Behind w) = behind_json s n w
+finding_json s n (finding.Failed t c m) = failed_json s n t c m
+finding_json s n (finding.Owed q t) = owed_json s n q t
+finding_json s n (finding.Echo t q o) = echo_json s n t q o
+
+-- a cause, and behind it what follows from it
+abbrev pub tree_json : Told → Tree → List ℕ
+tree_json s t = finding_json s 0 t.root ++ flat_map (finding_json s 1) t.below
+
+-- a forest of findings
+abbrev pub forest_json : Told → Forest → List ℕ
+forest_json s f = flat_map (tree_json s) f.trees ++ flat_map (finding_json s 0) f.strays
+
+-- a number of something
+abbrev pub count_json : List ℕ → List ℕ → ℕ → List ℕ
+count_json kind what n = begin kind ++ codes ",\"" ++ what ++ codes "\":" ++ decimal n ++ codes "}\n"
+
+-- nothing went wrong with so many tasks
+abbrev pub fine_json : ℕ → List ℕ
+fine_json n = count_json (codes "fine") (codes "tasks") n
+
+-- a run that needs more cells than these
+abbrev pub full_json : ℕ → List ℕ
+full_json cells = count_json (codes "full") (codes "cells") cells
+
+-- what is told of an outcome
+abbrev pub told_json : Told → List TraceLine → Outcome → List ℕ
+told_json s lines o =
+    cond (is_marked o) (forest_json s (forest_of s.places lines o.cycles)) (fine_json (length lines))
+
+-- the letter and the number of a fault of the tokens
+abbrev pub token_code : LexFault → List ℕ
+token_code (lex.Byte at) = codes "L1"
+token_code (lex.Number at) = codes "L2"
+token_code (lex.Long at) = codes "L3"
+token_code lex.Oom = []
+
+-- those of a fault of the grammar
+abbrev pub grammar_code : ParseFault → List ℕ
+grammar_code (parse.Expected at) = codes "P1"
+grammar_code (parse.Unknown at) = codes "P2"
+grammar_code (parse.Twice at) = codes "P3"
+grammar_code (parse.Count at) = codes "P4"
+grammar_code (parse.NoMain at) = codes "P5"
+grammar_code (parse.MainParams at) = codes "P6"
+grammar_code (parse.Deep at) = codes "P7"
+grammar_code (parse.Many at) = codes "P8"
+grammar_code parse.Oom = []
+
+-- those of a fault
+abbrev pub fault_code : NoScript → List ℕ
+fault_code (Long at) = codes "T1"
+fault_code (Tokens fault) = token_code fault
+fault_code (Grammar fault) = grammar_code fault
+
+-- what is told of a text with this fault and these tokens
+abbrev pub fault_json : List ℕ → List Token → NoScript → List ℕ
+fault_json text tokens fault = begin (codes "fault") ++ codes ",\"fault\":" ++ quoted (fault_code fault)
+    ++ codes ",\"at\":" ++ quoted (found_text (position_of fault)) ++ codes ",\"words\":"
+    ++ quoted (flat_map escaped (fault_words text tokens fault)) ++ codes "}\n"

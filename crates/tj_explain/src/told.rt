@@ -1,0 +1,220 @@
+//! What is told of an input: of a script what went wrong with its run, of any other text its fault.
+ghost use Rattle.std.specs.Prelude.{ℕ, ◌≡◌, ◌≤◌, List, IfOk, length};
+ghost use Rattle.tj_body.specs.Asks.{IsFresh};
+ghost use Rattle.tj_body.specs.Rounds.{IsFull, meaning};
+ghost use Rattle.tj_command.specs.Inputs.{IsReadOf};
+ghost use Rattle.tj_command.specs.Limits.{AreLimits};
+ghost use Rattle.tj_syntax.specs.ScriptTexts.{IsMemory, most_bytes};
+ghost use Rattle.tj_eval.specs.Stands.{IsPlacedMain, PlacedState};
+ghost use Rattle.tj_eval.specs.Stands.{placed_awaits, placed_left, placed_places};
+ghost use Rattle.tj_mean.specs.Outcomes.{IsOutcome};
+ghost use Rattle.tj_ports.specs.Reading.{IsWithin};
+ghost use Rattle.tj_syntax.specs.Faults.{IsScript, kinds_of};
+ghost use Rattle.tj_syntax.specs.View as view;
+ghost use Rattle.tj_trace.specs.TraceLaws.{script_program};
+ghost use Rattle.tj_explain.specs.Tellings as tellings;
+ghost use Rattle.tj_explain.specs.WhyOutput as outputs;
+ghost use Rattle.tj_explain.specs.WhyOutput.{IsCommandOutput, IsToldRun};
+
+use crate::line::WhyCommand;
+use crate::replies::{fault_told, fine_told, full_told};
+use crate::scene::Scene;
+use crate::telling::Telling;
+use crate::why::why_text;
+use std::alloc::Global;
+use tj_base::Oom;
+use tj_command::{Limits, Output, Status, status_of};
+use tj_eval::{PlacedBody, Sizes, main_body, placed_main};
+use tj_lex::{Token, tokens};
+use tj_mean::{Outcome, PlanFault, marked, plan};
+use tj_ports::ReadEnd;
+use tj_syntax::{NoScript, Script, parse, places, position_behind};
+use tj_trace::trace;
+
+/// What is told of an input, where this was read of it.
+pub fn told_of(alloc: Global, command: WhyCommand, input: &ReadEnd) -> Result<Output, Oom>
+    requires limits { AreLimits command.limits }
+    requires within { IsWithin most_bytes input.now }
+    ensures { IfOk result (λ output. (all : List ℕ) → IsReadOf all input.now
+        → IsCommandOutput command all output.status output.text.items) }
+{
+    match input {
+        ReadEnd::Whole(text) => told_of_text(alloc, command, text.items()),
+        ReadEnd::Long(text) => {
+            let at = position_behind(text.items());
+            told_fault(
+                alloc,
+                command.telling,
+                text.items(),
+                &[],
+                NoScript::Long(at),
+            )
+        }
+    }
+}
+
+/// What is told of a text of at most 1,048,576 bytes, and the status of the script's outcome: of a
+/// script what went wrong with its run and where, of any other text its first fault. An error comes
+/// for want of memory.
+pub fn told_of_text(alloc: Global, command: WhyCommand, text: &[u8]) -> Result<Output, Oom>
+    // The limits of a run are those of a command line.
+    requires limits { AreLimits command.limits }
+    // A script has no more bytes.
+    requires short { length text.now ≤ most_bytes }
+    // It is the output of the command for this text.
+    ensures { IfOk result (λ output.
+        IsCommandOutput command text.now output.status output.text.items) }
+{
+    let found = match tokens(alloc, text) {
+        Ok(found) => found,
+        Err(fault) => return told_fault(alloc, command.telling, text, &[], NoScript::Tokens(fault)),
+    };
+    match parse(alloc, found.as_slice()) {
+        Ok(script) => told_script(alloc, command, text, found.as_slice(), &script),
+        Err(fault) => told_fault(
+            alloc,
+            command.telling,
+            text,
+            found.as_slice(),
+            NoScript::Grammar(fault),
+        ),
+    }
+}
+
+// The fault of a text with these tokens.
+fn told_fault(
+    alloc: Global,
+    telling: Telling,
+    text: &[u8],
+    tokens: &[Token],
+    fault: NoScript,
+) -> Result<Output, Oom>
+    ensures status { IfOk result (λ output. output.status ≡ Status.Script) }
+    ensures text { IfOk result (λ output.
+        output.text.items ≡ tellings.fault_told telling text.now tokens.now fault) }
+    ensures none { IfOk result (λ _. ¬ IsMemory fault) }
+{
+    Ok(Output {
+        status: Status::Script,
+        text: fault_told(alloc, telling, text, tokens, fault)?,
+    })
+}
+
+// What is told of the run of a script with this text and these tokens.
+fn told_script(
+    alloc: Global,
+    command: WhyCommand,
+    text: &[u8],
+    tokens: &[Token],
+    script: &Script,
+) -> Result<Output, Oom>
+    requires limits { AreLimits command.limits }
+    requires script { IsScript (kinds_of tokens.now) (view.script script.now) }
+    ensures { IfOk result (λ output. (root : PlacedState)
+        × IsPlacedMain (view.script script.now) command.limits.steps root
+        × IsToldRun command text.now (view.script script.now) tokens.now root output.status
+        output.text.items) }
+{
+    let Limits {
+        cells,
+        steps,
+        strict,
+    } = command.limits;
+    let sizes = Sizes::of(alloc, script)?;
+    let root = placed_main(alloc, script, &sizes, steps)?;
+    match plan(alloc, &main_body(alloc, script, steps)?, cells, strict) {
+        Ok(outcome) => told_outcome(alloc, command, text, tokens, script, &root, &outcome),
+        Err(PlanFault::Full) => Ok(Output {
+            status: Status::Full,
+            text: full_told(alloc, command.telling, cells)?,
+        }),
+        Err(PlanFault::Oom) => Err(Oom),
+    }
+}
+
+// What is told of an outcome of the run with this root. One that isn't marked has a trace for a
+// picture alone.
+fn told_outcome(
+    alloc: Global,
+    command: WhyCommand,
+    text: &[u8],
+    tokens: &[Token],
+    script: &Script,
+    root: &PlacedBody,
+    outcome: &Outcome,
+) -> Result<Output, Oom>
+    requires limits { AreLimits command.limits }
+    requires root { IsFresh placed_places placed_awaits placed_left 1 root.now }
+    requires fits { ¬ IsFull (script_program command.limits.strict root.now)
+        command.limits.cells }
+    requires outcome { IsOutcome (meaning (script_program command.limits.strict root.now)
+        command.limits.cells) outcome.now }
+    ensures { IfOk result (λ output. IsToldRun command text.now (view.script script.now) tokens.now
+        root.now output.status output.text.items) }
+{
+    if tells_lines(command.telling, marked(outcome)) {
+        told_traced(alloc, command, text, tokens, script, root, outcome)
+    } else {
+        told_fine(alloc, command.telling, outcome)
+    }
+}
+
+// Whether the lines of the trace are looked into.
+fn tells_lines(telling: Telling, marked: bool) -> bool
+    ensures { result ≡ outputs.tells_lines telling marked }
+{
+    match telling {
+        Telling::Wrong | Telling::All | Telling::Json => marked,
+        Telling::Dot => true,
+    }
+}
+
+// What is told of a run in which nothing went wrong.
+fn told_fine(alloc: Global, telling: Telling, outcome: &Outcome) -> Result<Output, Oom>
+    ensures status { IfOk result (λ output. output.status ≡ Status.Clean) }
+    ensures text { IfOk result (λ output.
+        output.text.items ≡ tellings.fine_told telling (length outcome.now.lines)) }
+{
+    Ok(Output {
+        status: Status::Clean,
+        text: fine_told(alloc, telling, outcome.lines.items().len())?,
+    })
+}
+
+// The same by the lines of its trace.
+fn told_traced(
+    alloc: Global,
+    command: WhyCommand,
+    text: &[u8],
+    tokens: &[Token],
+    script: &Script,
+    root: &PlacedBody,
+    outcome: &Outcome,
+) -> Result<Output, Oom>
+    requires limits { AreLimits command.limits }
+    requires root { IsFresh placed_places placed_awaits placed_left 1 root.now }
+    requires fits { ¬ IsFull (script_program command.limits.strict root.now)
+        command.limits.cells }
+    requires outcome { IsOutcome (meaning (script_program command.limits.strict root.now)
+        command.limits.cells) outcome.now }
+    ensures { IfOk result (λ output. IsToldRun command text.now (view.script script.now) tokens.now
+        root.now output.status output.text.items) }
+{
+    let Limits { cells, strict, .. } = command.limits;
+    // The run with stands isn't full where the one without them wasn't.
+    let Ok(lines) = trace(alloc, root, cells, strict) else {
+        return Err(Oom);
+    };
+    let places = places(alloc, tokens)?;
+    let scene = Scene {
+        alloc,
+        script,
+        places: &places,
+        text,
+        short: command.short,
+    };
+    Ok(Output {
+        status: status_of(marked(outcome)),
+        text: why_text(&scene, lines.items(), outcome, command.telling)?,
+    })
+}

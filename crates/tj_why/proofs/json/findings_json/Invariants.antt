@@ -1,9 +1,0 @@
-use Rattle.std.proofs.Common.{◌≡◌, take}
-use Rattle.std.specs.List.{flat_map}
-use Rattle.tj_why.specs.JsonTexts.{finding_json}
-use Rattle.tj_why.specs.Scenes.{view}
-use Rattle.tj_why.proofs.json.findings_json.Given as goal
-
--- the findings so far
-abbrev pub invariant-loop-finding : goal.invariant-loop-finding
-invariant-loop-finding l = l.json.items ≡ flat_map (finding_json (view l.scene)) (take l.finding-index l.findings)
