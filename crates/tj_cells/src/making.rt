@@ -81,10 +81,11 @@ pub fn birth<B: Body>(laid: &Laid<B>, seat: &mut WSeat<B>, t: CellId, kid: u32) 
     // written.
     ensures full { OnErr result (FindsNone (program_of B.places B.awaits B.left B.asks B.then)
         seat.old.me.0 seat.new.me.0 × (seat.new.me.1 ≡ seat.old.me.1)) }
-    // The call is the draw, which found this cell, the stores of PARENT and KID, the loads of JUMP,
-    // DEPTH, KID and PARENT of three tasks, and the stores of DEPTH, JUMP and OWN. The tasks are
-    // its maker, the one where that jumps, and the one where this jumps; DEPTH is stored as one
-    // more than that of its maker.
+    // The call is the draw, which found this cell, the stores of PARENT and KID, the loads of
+    // PARENT, KID, DEPTH and JUMP of three tasks, in this order of each, and the stores of DEPTH,
+    // JUMP and OWN. The tasks are its maker, the one where that jumps, and the one where this
+    // jumps; DEPTH is stored as one more than that of its maker, and JUMP as the number that
+    // `put_once` asks for.
     ensures log_made { IfOk result (λ c. MakesTask t.0 kid c.0 seat.old seat.new) }
     // Where it is Full it is one step, a draw that found COUNT at the table's cells or above.
     ensures log_full { OnErr result (MakesRefusedDraw laid.now.cells t.0 sorts.Task seat.old

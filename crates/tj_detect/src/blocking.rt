@@ -94,7 +94,8 @@ pub fn block<B: Body, L: Ledger>(
     // is q at first, PHASE of the owner and OWN again, so often at most as COUNT counts cells of
     // the table. Where both loads of OWN name the same other task, the cell that it waits for by
     // its PHASE is the present one from then on, and else nothing more is loaded. Alarm comes
-    // exactly where OWN names t, with the store of the alarm last.
+    // exactly where the first of the two loads names t, with the store of the alarm last; where
+    // the second alone did, it would be Walked.
     ensures log { LogsBlock laid.now.cells t.0 q way result seat.old seat.new }
 {
     settlers_are_not_alone();

@@ -15,9 +15,10 @@ use Rattle.atomic_table.proofs.Lists.{at_map, at_set, at_snoc, set_else}
 use Rattle.tj_log.specs.declared.entry.Did.{Did}
 use Rattle.tj_log.specs.declared.entry.Entry.{Entry}
 use Rattle.tj_log.specs.declared.entry.Logged.{Logged}
-use Rattle.tj_log.specs.Logs.{numbers, own_view, own_state, own_me, gone, opened, cut, glued, logging}
+use Rattle.tj_log.specs.Logs.{numbers, own_view, own_state, own_me, gone, opened, cut, glued, earlier, logging}
 use Rattle.tj_log.specs.Runs.{Terms, begins, steps, splits, joins, left, tell, log_of, took_of, Kept, log_at, took_at}
-use Rattle.tj_log.specs.Runs.{entries_at}
+use Rattle.tj_log.specs.Runs.{before, befores_at, befores_of, entries_at, took_befores_at}
+use Rattle.tj_log.specs.Runs.{took_befores_of}
 use Rattle.tj_log.proofs.Entries.{at_bound, pick, there, here, else, same, snoc}
 
 module _ {S V : Type 0} (terms : Terms S V) where
@@ -39,7 +40,14 @@ module _ {S V : Type 0} (terms : Terms S V) where
       let e : Entry = record { did = did; word = i; first = a; second = b; found = tell did a n } in
       let after = numbers (carried_after m.1 r.1) in
       let w : Logged V =
-      record { own = r.0; log = e ∷ m.0.log; took = m.0.took; lone = m.0.lone; slots = after } in
+      record {
+        own = r.0;
+        log = e ∷ m.0.log;
+        took = m.0.took;
+        lone = m.0.lone;
+        slots = after;
+        befores = earlier (m.0.own ∷ m.0.befores.views) m.0.befores.taken;
+      } in
       let now : own_state (stepped s i (left did a b n) id m.1 w r.1)
       ≡ stepped (own_state s) i (left did a b n) id m.1 r.0 r.1
       = ap (λ (vs : List V). record {
@@ -87,11 +95,19 @@ module _ {S V : Type 0} (terms : Terms S V) where
               (λ is. ap (λ (k : ℕ). entries_at (λ v. v.slots) (set s.views id w) k) is
               ∙ here (λ v. v.slots) s.views id m.0 w at)
               (λ ne. else (λ v. v.slots) s.views id j w ne ∙ kept.left_slots j);
+          befores = λ j. pick j id _ _ _
+              (λ is. ap (λ (k : ℕ). befores_at (set s.views id w) k) is
+              ∙ (here (λ v. v.befores.views) s.views id m.0 w at
+              ∙ (ap (λ (l : List V). m.0.own ∷ l) (sym (there (λ v. v.befores.views) s.views id m.0 at)
+              ∙ (kept.befores id ∙ ap (λ (k : ℕ). befores_of k kept.past) (sym is)))
+              ∙ ap (λ z. before z (befores_of j kept.past)) (sym own))))
+              (λ ne. else (λ v. v.befores.views) s.views id j w ne ∙ kept.befores j);
+          took_befores = λ j. same (λ v. v.befores.taken) s.views id j m.0 w at refl ∙ kept.took_befores j;
           lone = λ j v is lone. length-set s.views id w ∙ ⊎_elim
               (λ (t : (j ≡ id) × (w ≡ v)). kept.lone id m.0 at (ap (λ (x : Logged V). x.lone) t.1 ∙ lone))
               (λ (t : (j ≢ id) × (get_elem? s.views j ≡ some v)). kept.lone j v t.1 lone) (at_set s.views id j w v is);
         },
-        (r.4, refl, refl, refl, refl),
+        (r.4, refl, refl, refl, refl, refl, refl),
       )
 
   -- a seat is split
@@ -122,6 +138,10 @@ module _ {S V : Type 0} (terms : Terms S V) where
             ∙ kept.tooks j);
         left_slots = λ j. snoc (λ v. v.slots) (set s.views id l) j r refl ∙ (same (λ v. v.slots) s.views id j v l at
             refl ∙ kept.left_slots j);
+        befores = λ j. snoc (λ v. v.befores.views) (set s.views id l) j r refl
+            ∙ (same (λ v. v.befores.views) s.views id j v l at refl ∙ kept.befores j);
+        took_befores = λ j. snoc (λ v. v.befores.taken) (set s.views id l) j r refl
+            ∙ (same (λ v. v.befores.taken) s.views id j v l at refl ∙ kept.took_befores j);
         lone = λ j u is lone. absurd (⊎_elim
             (λ (q : get_elem? (set s.views id l) j ≡ some u). ⊎_elim
             (λ (t : (j ≡ id) × (l ≡ u)). true≢false (sym lone ∙ ap (λ (x : Logged V). x.lone) (sym t.1)))
@@ -190,6 +210,22 @@ module _ {S V : Type 0} (terms : Terms S V) where
             ∙ here (λ v. v.slots) vs other w g other_at)
             (λ ne. else (λ v. v.slots) vs other j g ne
             ∙ (same (λ v. v.slots) s.views id j v b at refl ∙ kept.left_slots j));
+        befores = λ j. pick j other _ _ _
+            (λ is. ap (λ (k : ℕ). befores_at (set vs other g) k) is ∙ here (λ v. v.befores.views) vs other w g other_at)
+            (λ ne. else (λ v. v.befores.views) vs other j g ne
+            ∙ (same (λ v. v.befores.views) s.views id j v b at refl ∙ kept.befores j));
+        took_befores = λ j. pick j other _ _ _
+            (λ is. ap (λ (k : ℕ). took_befores_at (set vs other g) k) is
+            ∙ here (λ v. v.befores.taken) vs other w g other_at)
+            (λ ne. else (λ v. v.befores.taken) vs other j g ne ∙ pick j id _ _ _
+            (λ is. ap (λ (k : ℕ). took_befores_at vs k) is ∙ (here (λ v. v.befores.taken) s.views id v b at
+            ∙ (ap (λ (l : List (List V)). l ++ w.befores.views ∷ w.befores.taken)
+            (sym (there (λ v. v.befores.taken) s.views id v at) ∙ kept.took_befores id)
+            ∙ (ap (λ (l : List V). took_befores_of id kept.past ++ l ∷ w.befores.taken)
+            (sym (there (λ v. v.befores.views) s.views other w was) ∙ kept.befores other)
+            ∙ ap (λ (l : List (List V)). took_befores_of id kept.past ++ befores_of other kept.past ∷ l)
+            (sym (there (λ v. v.befores.taken) s.views other w was) ∙ kept.took_befores other)))))
+            (λ no. else (λ v. v.befores.taken) s.views id j b no ∙ kept.took_befores j));
         lone = λ j u is lone. absurd (⊎_elim
             (λ (t : (j ≡ other) × (g ≡ u)). true≢false (sym lone ∙ ap (λ (x : Logged V). x.lone) (sym t.1)))
             (λ (t : (j ≢ other) × (get_elem? vs j ≡ some u)). ⊎_elim
@@ -213,6 +249,8 @@ module _ {S V : Type 0} (terms : Terms S V) where
     logs = λ j. none_at (λ v. v.log) (opened terms.first) j refl;
     tooks = λ j. none_at (λ v. v.took) (opened terms.first) j refl;
     left_slots = λ j. none_at (λ v. v.slots) (opened terms.first) j refl;
+    befores = λ j. none_at (λ v. v.befores.views) (opened terms.first) j refl;
+    took_befores = λ j. none_at (λ v. v.befores.taken) (opened terms.first) j refl;
     lone = λ j v is lone. refl;
   }
 
@@ -230,8 +268,9 @@ module _ {S V : Type 0} {terms : Terms S V} where
         me = own_me m;
         log = m.0.log;
         took = m.0.took;
-        lone
-            = m.0.lone;
+        lone = m.0.lone;
+        befores = m.0.befores.views;
+        took_befores = m.0.befores.taken;
       }) ws xs
   final_run table id m ws xs f = let k = f.1.0 in (
     own_state f.0,
@@ -243,6 +282,8 @@ module _ {S V : Type 0} {terms : Terms S V} where
     f.2,
     f.3,
     f.4,
+    sym (there (λ v. v.befores.views) f.0.views id m.0 f.1.1) ∙ k.befores id,
+    sym (there (λ v. v.befores.taken) f.0.views id m.0 f.1.1) ∙ k.took_befores id,
   )
 
 -- a seat that has no slot was left with none

@@ -8,6 +8,7 @@ use Rattle.atomic_table.specs.Table.{State}
 use Rattle.tj_log.specs.declared.entry.Logged.{Logged}
 use Rattle.tj_log.specs.Runs.{Terms, Past, begins, steps, splits, joins, log_of, took_of, first_of, Came, Kept}
 use Rattle.tj_log.specs.Runs.{entries_at}
+use Rattle.tj_log.specs.Logs.{earlier}
 use Rattle.tj_log.specs.Laws.{FreshIsFirst, HasOpened, NothingIsLogged}
 
 some_is_none : {A : Type 0} (e : A) (l : List A) → e ∷ l ≡ [] → ⊥
@@ -59,6 +60,7 @@ module _ {S V : Type 0} (terms : Terms S V) where
     took = seat.took;
     lone = seat.lone;
     slots = at.0;
+    befores = earlier seat.befores seat.took_befores;
   } in
       let one = k.lone seat.id v at.1 f.2 in
       unmoved s k (

@@ -4,7 +4,7 @@ use mathlib.Core.Option.{some, none}
 use lib.ListN.{get_elem?}
 use Rattle.atomic_table.specs.Table.{State, Me, Step, Act, Valid, carried_after, step, stepped, Splits, Joins}
 use Rattle.tj_log.specs.declared.entry.Did.{Did}
-use Rattle.tj_log.specs.Runs.{Terms, Past, IsPlain, IsRun, left, tell, log_of, took_of}
+use Rattle.tj_log.specs.Runs.{Terms, Past, IsPlain, IsRun, befores_of, left, tell, log_of, took_befores_of, took_of}
 use Rattle.tj_log.specs.Shown.{SeatShown, TableShown}
 
 module _ {S V : Type 0} where
@@ -39,19 +39,21 @@ module _ {S V K : Type 0} (holds : K → State S V → Type 0) where
       × Joins (holds t.shared.key) s.id s.me.0 o.id o.me.0 (both s.me.0 o.me.0) spent × may_join s.me.0 o.me.0
 
 module _ {S V : Type 0} where
-  -- what a step says: what the caller's play tells, and the log of the seat is longer by this one step
+  -- what a step says: what the caller's play tells, and the log of the seat is longer by this one step, with the view
+  -- before it
   abbrev pub Makes : (Step S → Me S V → ℕ → Me S V → Type 0) → Did → ℕ → ℕ → ℕ → ℕ
       → SeatShown S V → ℕ → SeatShown S V → Type 0
   Makes then did a b slots i s n t = (t.table_id ≡ s.table_id) × (t.id ≡ s.id)
       × then (step slots i a b none) s.me n t.me
       × (t.log ≡ record { did = did; word = i; first = a; second = b; found = n } ∷ s.log) × (t.took ≡ s.took)
-      × (t.lone ≡ s.lone)
+      × (t.lone ≡ s.lone) × (t.befores ≡ s.me.0 ∷ s.befores) × (t.took_befores ≡ s.took_befores)
 
   -- the table at the end: it came by a run to these words and to the values of the slots that were at home, and the
-  -- seat's logs have its steps of that run
+  -- seat's logs have its steps of that run, with the views before them
   abbrev pub Ended : Terms S V → SeatShown S V → List ℕ → List S → Type 0
   Ended terms seat ws xs = (s : State S V) × (past : Past S V) × IsRun terms s past
       × (get_elem? s.views seat.id ≡ some seat.me.0) × (seat.log ≡ log_of seat.id past)
       × (seat.took ≡ took_of seat.id past)
       × (s.words ≡ ws) × (length s.homes ≡ length xs)
       × ((k : ℕ) (y : S) → get_elem? s.homes k ≡ some (some y) → get_elem? xs k ≡ some y)
+      × (seat.befores ≡ befores_of seat.id past) × (seat.took_befores ≡ took_befores_of seat.id past)

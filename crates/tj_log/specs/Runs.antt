@@ -1,7 +1,7 @@
 -- The run of a table: how what stands came from what stood at first, by the steps that stand in the logs of its seats.
 use Rattle.std.specs.Prelude.{◌≡◌, ◌≢◌, ℕ, zero, suc, ◌+◌, ◌-◌, ◌%◌, ◌^◌, true, cond, eqb, List, [], ◌∷◌, ◌++◌}
 use Rattle.std.specs.Prelude.{length, slice_index, slice_set}
-use mathlib.Core.Option.{some, none}
+use mathlib.Core.Option.{Option, some, none}
 use lib.ListN.{get_elem?}
 use prog.Atomic.{either}
 use Rattle.atomic_table.specs.Table.{State, Me, Step, Act, keeps, takes, gives, chain, Valid, carried_after, step}
@@ -69,6 +69,11 @@ terms_of holds tells left_half right_half both spent opens first may_join = reco
   may_join = may_join;
 }
 
+-- this view, where there is one, in front of the others
+abbrev pub before : {V : Type 0} → Option V → List V → List V
+before none vs = vs
+before (some v) vs = v ∷ vs
+
 -- how a table came from what stood at first: each state that stood before, with what was done then, and of a step the
 -- slots that its seat had, and what it did with them
 pub data Past (S V : Type 0) : Type 0 where
@@ -99,6 +104,22 @@ module _ {S V : Type 0} where
   slots_of j (steps past s id e c a) = cond (eqb j id) (numbers (carried_after c a)) (slots_of j past)
   slots_of j (splits past s id) = slots_of j past
   slots_of j (joins past s a b) = cond (eqb j b) [] (slots_of j past)
+
+  -- the view that the seat j had before each of its own steps, the last first
+  abbrev pub befores_of : ℕ → Past S V → List V
+  befores_of j begins = []
+  befores_of j (steps past s id e c a) =
+      cond (eqb j id) (before (get_elem? s.views id) (befores_of j past)) (befores_of j past)
+  befores_of j (splits past s id) = befores_of j past
+  befores_of j (joins past s a b) = cond (eqb j b) [] (befores_of j past)
+
+  -- those of each log that it has taken in
+  abbrev pub took_befores_of : ℕ → Past S V → List (List V)
+  took_befores_of j begins = []
+  took_befores_of j (steps past s id e c a) = took_befores_of j past
+  took_befores_of j (splits past s id) = took_befores_of j past
+  took_befores_of j (joins past s a b) = cond (eqb j b) []
+      (cond (eqb j a) (took_befores_of a past ++ befores_of b past ∷ took_befores_of b past) (took_befores_of j past))
 
   -- what stood at first
   abbrev pub first_of : State S V → Past S V → State S V
@@ -171,7 +192,8 @@ module _ {V : Type 0} where
   entries_at f (v ∷ vs) zero = f v
   entries_at f (v ∷ vs) (suc j) = entries_at f vs j
 
-  -- the log of the seat j, what it has taken in, and the numbers of the slots that its last step left it with
+  -- the log of the seat j, what it has taken in, the numbers of the slots that its last step left it with, and the view
+  -- before each step of these logs
   abbrev pub log_at : List (Logged V) → ℕ → List Entry
   log_at = entries_at (λ v. v.log)
 
@@ -181,6 +203,12 @@ module _ {V : Type 0} where
   abbrev pub slots_at : List (Logged V) → ℕ → List ℕ
   slots_at = entries_at (λ v. v.slots)
 
+  abbrev pub befores_at : List (Logged V) → ℕ → List V
+  befores_at = entries_at (λ v. v.befores.views)
+
+  abbrev pub took_befores_at : List (Logged V) → ℕ → List (List V)
+  took_befores_at = entries_at (λ v. v.befores.taken)
+
 module _ {S V : Type 0} where
   -- the rule of a table with logs: it came to what stands by a run, and each seat's log has its steps of that run
   pub record Kept (terms : Terms S V) (s : State S (Logged V)) : Type 0 where
@@ -189,5 +217,7 @@ module _ {S V : Type 0} where
     pub logs : (j : ℕ) → log_at s.views j ≡ log_of j past
     pub tooks : (j : ℕ) → took_at s.views j ≡ took_of j past
     pub left_slots : (j : ℕ) → slots_at s.views j ≡ slots_of j past
+    pub befores : (j : ℕ) → befores_at s.views j ≡ befores_of j past
+    pub took_befores : (j : ℕ) → took_befores_at s.views j ≡ took_befores_of j past
     -- a seat that was never split and has taken in none is the only one
     pub lone : (j : ℕ) (v : Logged V) → get_elem? s.views j ≡ some v → v.lone ≡ true → length s.views ≡ 1

@@ -1,4 +1,9 @@
 //! What a log says of a step. No value of these types is made; a clause reads an array as a list of any length.
+ghost use Rattle.std.specs.Borrow.{ftrue};
+ghost use Rattle.std.specs.Prelude.{List};
+ghost use base.Stored.{coded_list};
+
+use std::marker::{Model, PhantomData};
 
 /// What a step does with its word.
 pub enum Did {
@@ -20,6 +25,19 @@ pub struct Entry {
     pub found: u64,
 }
 
+/// The views that a seat had: lists that take no memory, whatever a view is.
+pub struct Befores<V> {
+    of: PhantomData<V>,
+    /// Before each of its own steps, the last first.
+    pub ghost views: { List V } by { coded_list V.code },
+    /// For each log that it has taken in, those before the steps of that log.
+    pub ghost taken: { List (List V) } by { coded_list (coded_list V.code) },
+}
+
+impl<V> Model for Befores<V> {
+    ghost also_owns = { λ _. ftrue };
+}
+
 /// What a seat knows, beside its log.
 pub struct Logged<V> {
     /// The caller's view.
@@ -32,4 +50,6 @@ pub struct Logged<V> {
     pub lone: bool,
     /// The numbers of the slots that its last step left it with, that of the slot taken last in front.
     pub slots: [u64; 0],
+    /// The caller's view before each step of these logs.
+    pub befores: Befores<V>,
 }

@@ -21,8 +21,9 @@ pub fn slots_are_as_put<S, V, K, P: LogRule<S, V, K>>()
 
 /// What is logged is of the run.
 pub fn logs_are_of_runs<S, V, K, P: LogRule<S, V, K>>()
-    // Law: each entry of a seat's log is a step that the seat made in the run, after those that are older in its log; each log
-    // that a seat has taken in was that of a seat in the run; and what stands at a moment of a run came by a run.
+    // Law: each entry of a seat's log is a step that the seat made in the run, after those that are older in its log, and
+    // the view that the seat had then is the one that it has kept for this step; each log that a seat has taken in was
+    // that of a seat in the run, with the views that are kept for it; and what stands at a moment of a run came by a run.
     ensures logs { (key : K) → LogsAreOfRuns (terms_of (P.holds key) (P.tells key) P.left P.right
         P.both P.spent (P.opens key) (P.first key) P.may_join) }
 {}

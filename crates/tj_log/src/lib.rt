@@ -10,7 +10,7 @@ mod plays;
 mod seat;
 mod table;
 
-pub use entry::{Did, Entry, Logged};
+pub use entry::{Befores, Did, Entry, Logged};
 pub use laws::{fresh_is_first, logs_are_of_runs, slots_are_as_put};
 pub use seat::LogSeat;
 pub use table::{LogRule, LogTable, Logs};

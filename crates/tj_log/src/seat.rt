@@ -25,5 +25,7 @@ impl<S, V> Model for LogSeat<S, V> {
       log = it.seat.me.0.log;
       took = it.seat.me.0.took;
       lone = it.seat.me.0.lone;
+      befores = it.seat.me.0.befores.views;
+      took_befores = it.seat.me.0.befores.taken;
     } };
 }

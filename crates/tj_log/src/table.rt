@@ -92,7 +92,7 @@ impl<S, V, K, P: LogRule<S, V, K>, A: Allocator> LogTable<S, V, K, P, A> {
     pub fn load<M: Play<S, V>>(&self, seat: &mut LogSeat<S, V>, word: usize) -> u64
         requires { Asks P.holds P.tells M.then Did.Load 0 0 word self.now seat.old }
         // A load tells what the caller says of it, and the seat's log is longer by this load and
-        // the number found.
+        // the number found, with the view that the seat had before.
         ensures { Makes M.then Did.Load 0 0 self.now.shared.table_id.slots word seat.old result
             seat.new }
     {
@@ -175,7 +175,9 @@ impl<S, V, K, P: LogRule<S, V, K>, A: Allocator> LogTable<S, V, K, P, A> {
             × (seat.new.me ≡ (P.left seat.old.me.0, seat.old.me.1))
             × (result.table_id ≡ seat.old.table_id) × (result.me ≡ (P.right seat.old.me.0, []))
             × (seat.new.log ≡ seat.old.log) × (seat.new.took ≡ seat.old.took)
-            × (result.log ≡ []) × (result.took ≡ []) }
+            × (result.log ≡ []) × (result.took ≡ []) × (seat.new.befores ≡ seat.old.befores)
+            × (result.befores ≡ []) × (seat.new.took_befores ≡ seat.old.took_befores)
+            × (result.took_befores ≡ []) }
     {
         let other = self.table.shared.split_seat::<Halves<P>>(&mut seat.seat);
         LogSeat { seat: other }
@@ -188,7 +190,9 @@ impl<S, V, K, P: LogRule<S, V, K>, A: Allocator> LogTable<S, V, K, P, A> {
         ensures { (seat.new.table_id ≡ seat.old.table_id) × (seat.new.id ≡ seat.old.id)
             × (seat.new.me ≡ (P.both seat.old.me.0 other.me.0, seat.old.me.1))
             × (seat.new.log ≡ seat.old.log)
-            × (seat.new.took ≡ seat.old.took ++ other.log ∷ other.took) }
+            × (seat.new.took ≡ seat.old.took ++ other.log ∷ other.took)
+            × (seat.new.befores ≡ seat.old.befores)
+            × (seat.new.took_befores ≡ seat.old.took_befores ++ other.befores ∷ other.took_befores) }
     {
         let LogSeat { seat: taken } = other;
         self.table
@@ -206,7 +210,8 @@ impl<S, V, K, P: LogRule<S, V, K>, A: Allocator> LogTable<S, V, K, P, A> {
             × (seat.old.me.1 ≡ (slot, result) ∷ rest seat.old.me.1)
             × (seat.new.me ≡ (seat.old.me.0, (slot, new) ∷ rest seat.old.me.1))
             × (seat.new.log ≡ seat.old.log) × (seat.new.took ≡ seat.old.took)
-            × (seat.new.lone ≡ seat.old.lone) }
+            × (seat.new.lone ≡ seat.old.lone) × (seat.new.befores ≡ seat.old.befores)
+            × (seat.new.took_befores ≡ seat.old.took_befores) }
     {
         self.table.shared.exchange(&mut seat.seat, slot, new)
     }

@@ -19,7 +19,7 @@ use Rattle.tj_park.specs.declared.parking.Parked.{Parked}
 use Rattle.tj_park.specs.declared.parking.Parked.TheVariants as parked
 use Rattle.tj_park.specs.Records.{MayGoHome, HasTaken, HasNothingToCome, AlarmsLeave}
 
--- the most steps of a call: at most N + 1 pushes, each with a store before it, and four steps besides
+-- the most steps of a call: at most N pushes, each with a store before it, and six steps besides
 abbrev pub park_steps : ℕ → ℕ
 park_steps cells = 2 * cells + 6
 

@@ -34,7 +34,8 @@ module _ {V K : Type 0} {rule : Ghosts K V} where
   EndsMeet ends = AllMeet deque_of reach_of ends
 
   -- the ends of these deques, each with a seat in each one
-  pub record AreEnds (cells : ℕ) (deques : List (RowsId × Global)) (ends : List (RuledStealPool V K rule)) : Type 0 where
+  pub record AreEnds (cells : ℕ) (deques : List (RowsId × Global)) (ends : List (RuledStealPool V K rule))
+      : Type 0 where
     pub new : All (IsNewEnd cells) ends
     pub own : map deque_of ends ≡ deques
     pub reach : All (λ end. reach_of end ≡ deques) ends

@@ -2,7 +2,7 @@
 ghost use Rattle.std.specs.Prelude.{◌≡◌, ◌≢◌, ◌<◌, ◌≤◌};
 ghost use Rattle.tj_body.specs.Programs.{program_of};
 ghost use Rattle.tj_words.specs.CallLaws.StepCalls as call;
-ghost use Rattle.tj_words.specs.CallLaws.StepLogs.{IsLogged};
+ghost use Rattle.tj_words.specs.CallLaws.StepLogs.{IsLogged, KeepsBefore};
 ghost use Rattle.tj_words.specs.Calls.ChainSteps.{HasPush, HasPushBehind, KnowsEntry, TakesChain};
 ghost use Rattle.tj_words.specs.Calls.ChainSteps.{found_taken, pushed, stored_next};
 ghost use Rattle.tj_words.specs.Calls.PushSteps.{FindsLonger};
@@ -32,6 +32,8 @@ impl<B: Body> Laid<B> {
         // The seat's log is longer by one entry: this word was stored into NEXT of the task.
         ensures log { IsLogged (call.puts_next t.0) (heads.head_word behind) 0
             (heads.head_word behind) seat.old seat.new }
+        // Beside this entry the seat keeps the view that it had before the step.
+        ensures before { KeepsBefore seat.old seat.new }
     {
         self.table
             .store::<NextStore>(seat, next_at(t), behind.word());
@@ -66,6 +68,8 @@ impl<B: Body> Laid<B> {
         // it was this head, and this head was found.
         ensures log { IsLogged (call.pushes p.0) (heads.head_word behind)
             (heads.head_word (Head.Task t)) (heads.head_word result) seat.old seat.new }
+        // Beside this entry the seat keeps the view that it had before the step.
+        ensures before { KeepsBefore seat.old seat.new }
     {
         Head::of_word(
             self.table
@@ -92,6 +96,8 @@ impl<B: Body> Laid<B> {
         // this head was found.
         ensures log { IsLogged (call.shuts p.0) heads.shut_word 0 (heads.head_word result)
             seat.old seat.new }
+        // Beside this entry the seat keeps the view that it had before the step.
+        ensures before { KeepsBefore seat.old seat.new }
     {
         let found = self
             .table

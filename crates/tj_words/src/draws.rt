@@ -2,7 +2,7 @@
 ghost use Rattle.std.specs.Prelude.{◌≡◌, ℕ, ◌<◌, ◌≤◌, IfSome, None};
 ghost use Rattle.tj_body.specs.Programs.{program_of};
 ghost use Rattle.tj_words.specs.CallLaws.StepCalls as call;
-ghost use Rattle.tj_words.specs.CallLaws.StepLogs.{IsLogged};
+ghost use Rattle.tj_words.specs.CallLaws.StepLogs.{IsLogged, KeepsBefore};
 ghost use Rattle.tj_words.specs.Calls.DrawViews as draws;
 ghost use Rattle.tj_words.specs.Calls.DrawViews.{FindsCell, FindsNone, MayDraw, MayWrite};
 ghost use Rattle.tj_words.specs.Calls.DrawViews.{new_slots};
@@ -46,6 +46,8 @@ impl<B: Body> Laid<B> {
         // table's number of cells or more.
         ensures log_refused { result ≡ None → (n : ℕ) × (self.now.cells ≤ n)
             × IsLogged (call.draws t.0 sort) 1 0 n seat.old seat.new }
+        // Beside this entry the seat keeps the view that it had before the step.
+        ensures before { KeepsBefore seat.old seat.new }
     {
         let found = self.add_count::<Brand>(seat, t, sort);
         if found < self.cells as u64 {
@@ -68,6 +70,7 @@ impl<B: Body> Laid<B> {
             → FindsNone (program_of B.places B.awaits B.left B.asks B.then)
             seat.old.me.0 seat.new.me.0 × (seat.new.me.1 ≡ seat.old.me.1) }
         ensures log { IsLogged (call.draws t.0 sort) 1 0 result seat.old seat.new }
+        ensures before { KeepsBefore seat.old seat.new }
     {
         event_keeps_facts();
         full_where_names::<B>();
@@ -82,6 +85,7 @@ impl<B: Body> Laid<B> {
         ensures seat { IsSameSeat seat.old seat.new }
         ensures view { seat.new.me.0 ≡ draws.wrote_word c.0 f v seat.old.me.0 }
         ensures log { IsLogged (call.puts_once c.0 f) v 0 v seat.old seat.new }
+        ensures before { KeepsBefore seat.old seat.new }
     {
         self.table.store::<WordStore>(seat, once_at(c, f), v);
     }

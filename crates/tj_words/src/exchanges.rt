@@ -3,7 +3,7 @@
 ghost use Rattle.std.specs.Prelude.{◌≡◌, ◌≢◌, ◌<◌, IfErr, OnOk};
 ghost use Rattle.tj_body.specs.Programs.{program_of};
 ghost use Rattle.tj_words.specs.CallLaws.StepCalls as call;
-ghost use Rattle.tj_words.specs.CallLaws.StepLogs.{IsLogged};
+ghost use Rattle.tj_words.specs.CallLaws.StepLogs.{IsLogged, KeepsBefore};
 ghost use Rattle.tj_words.specs.Words.Codes as codes;
 ghost use Rattle.tj_words.specs.Calls.ExchangeViews.{MaySwap, Swaps, missed};
 ghost use Rattle.tj_words.specs.Words.Phases as phases;
@@ -54,6 +54,8 @@ impl<B: Body> Laid<B> {
         // After an error it is longer by one entry, too: the exchange found the phase that is told.
         ensures log_found { IfErr result (λ p. IsLogged (call.swaps_phase t.0) (phases.phase_word was)
             (phases.phase_word to) (phases.phase_word p) seat.old seat.new) }
+        // Beside this entry the seat keeps the view that it had before the step.
+        ensures before { KeepsBefore seat.old seat.new }
     {
         let found = self.exchange_phase(seat, t, was, to);
         if found == was.word() {
@@ -77,6 +79,7 @@ impl<B: Body> Laid<B> {
             × codes.IsPhaseWord self.now.cells result }
         ensures log { IsLogged (call.swaps_phase t.0) (phases.phase_word was) (phases.phase_word to)
             result seat.old seat.new }
+        ensures before { KeepsBefore seat.old seat.new }
     {
         event_keeps_facts();
         self.table

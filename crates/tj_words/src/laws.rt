@@ -18,7 +18,8 @@ pub fn tables_have_runs<B>()
     // Law: what stands in a table came from the first state by step calls, each of a seat of which
     // what it asks is so, by splits, and by merges of idle seats. These are the steps that the logs
     // of its seats have: the entries of each log are steps of one seat, in the order of the run, and
-    // so are those of each log that a seat has taken in. So the laws of runs speak of the table's
+    // so are those of each log that a seat has taken in. The view that stands beside an entry is the
+    // one that the seat had before this step of the run. So the laws of runs speak of the table's
     // own run.
     ensures { logged.TablesHaveRuns B }
 {}

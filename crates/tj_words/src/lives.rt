@@ -3,7 +3,7 @@ ghost use Rattle.std.specs.Prelude.{◌≡◌, ℕ, ◌<◌, ◌≤◌, ◌∷�
 ghost use Rattle.atomic_table.specs.Table.{rest};
 ghost use Rattle.tj_body.specs.Programs.{program_of};
 ghost use Rattle.tj_words.specs.CallLaws.StepCalls as call;
-ghost use Rattle.tj_words.specs.CallLaws.StepLogs.{IsLogged, LogStays};
+ghost use Rattle.tj_words.specs.CallLaws.StepLogs.{IsLogged, KeepsBefore, LogStays};
 ghost use Rattle.tj_words.specs.Calls.LiveViews.{HasSlot, MayLowerLive, MayRaiseLive};
 ghost use Rattle.tj_words.specs.Calls.LiveViews.{live_lowered, live_raised};
 ghost use Rattle.tj_words.specs.SeatViews.SeatSteps.{IsSameSeat};
@@ -31,6 +31,8 @@ impl<B: Body> Laid<B> {
         ensures me { seat.new.me ≡ live_raised seat.old.me }
         // The seat's log is longer by one entry: 1 was added to LIVE.
         ensures log { (n : ℕ) × IsLogged call.raises_live 1 0 n seat.old seat.new }
+        // Beside this entry the seat keeps the view that it had before the step.
+        ensures before { KeepsBefore seat.old seat.new }
     {
         self.table.fetch_add::<LiveAdd>(seat, LIVE, 1);
     }
@@ -50,6 +52,8 @@ impl<B: Body> Laid<B> {
         ensures me { seat.new.me ≡ live_lowered seat.old.me }
         // The seat's log is longer by one entry: 1 was subtracted from LIVE.
         ensures log { (n : ℕ) × IsLogged call.lowers_live 1 0 n seat.old seat.new }
+        // Beside this entry the seat keeps the view that it had before the step.
+        ensures before { KeepsBefore seat.old seat.new }
     {
         self.table.fetch_sub::<LiveSub>(seat, LIVE, 1);
     }
@@ -71,6 +75,8 @@ impl<B: Body> Laid<B> {
             ≡ (stored_stop w seat.old.me.0, seat.old.me.1) }
         // The seat's log is longer by one entry: this number was stored into STOP.
         ensures log { IsLogged call.stops w 0 w seat.old seat.new }
+        // Beside this entry the seat keeps the view that it had before the step.
+        ensures before { KeepsBefore seat.old seat.new }
     {
         self.table.store::<StopStore>(seat, STOP, w);
     }
@@ -91,6 +97,9 @@ impl<B: Body> Laid<B> {
         ensures me { seat.new.me ≡ (seat.old.me.0, (t.0, rec) ∷ rest seat.old.me.1) }
         // No step was made: the seat's log is as it was.
         ensures log { LogStays seat.old seat.new }
+        // So are the views before its steps.
+        ensures before { (seat.new.befores ≡ seat.old.befores)
+            × (seat.new.took_befores ≡ seat.old.took_befores) }
     {
         self.table.exchange(seat, t.0 as usize, rec)
     }

@@ -3,7 +3,7 @@ ghost use Rattle.std.specs.Prelude.{◌≡◌, ◌≢◌, ℕ, ◌<◌, ◌≤�
 ghost use Rattle.tj_body.specs.Points.{IsIn};
 ghost use Rattle.tj_body.specs.Programs.{program_of};
 ghost use Rattle.tj_words.specs.CallLaws.StepCalls as call;
-ghost use Rattle.tj_words.specs.CallLaws.StepLogs.{IsLogged};
+ghost use Rattle.tj_words.specs.CallLaws.StepLogs.{IsLogged, KeepsBefore};
 ghost use Rattle.tj_words.specs.SeatViews.FullMeaning.{NamesFull};
 ghost use Rattle.tj_words.specs.Words.Heads as heads;
 ghost use Rattle.tj_words.specs.Calls.MetCells.{SeesOwner, SeesPhase};
@@ -47,6 +47,8 @@ impl<B: Body> Laid<B> {
         ensures live { result ≢ 0 → seat.new.me.0 ≡ saw_live result seat.old.me.0 }
         // The seat's log is longer by one entry: LIVE was loaded, and this number found.
         ensures log { IsLogged call.sees_live 0 0 result seat.old seat.new }
+        // Beside this entry the seat keeps the view that it had before the step.
+        ensures before { KeepsBefore seat.old seat.new }
     {
         self.table.load::<LiveLoad>(seat, LIVE) as u32
     }
@@ -69,6 +71,8 @@ impl<B: Body> Laid<B> {
         ensures stands { (n : ℕ) → IsIn n seat.old.me.0.stored → result ≢ 0 }
         // The seat's log is longer by one entry: STOP was loaded, and this number found.
         ensures log { IsLogged call.sees_stop 0 0 result seat.old seat.new }
+        // Beside this entry the seat keeps the view that it had before the step.
+        ensures before { KeepsBefore seat.old seat.new }
     {
         self.table.load::<StopLoad>(seat, STOP)
     }
@@ -82,6 +86,7 @@ impl<B: Body> Laid<B> {
         ensures few { result ≤ self.now.cells }
         ensures log { (n : ℕ) × (result ≡ min n self.now.cells)
             × IsLogged call.counts 0 0 n seat.old seat.new }
+        ensures before { KeepsBefore seat.old seat.new }
     {
         let found = self.table.load::<CountLoad>(seat, COUNT);
         found.min(self.cells as u64) as u32
@@ -96,6 +101,7 @@ impl<B: Body> Laid<B> {
         ensures task { (u : CellId) → result ≡ Some u → u.0 < self.now.cells }
         ensures log { IsLogged (call.sees_owner c.0) 0 0 (owner_word (owner_number result))
             seat.old seat.new }
+        ensures before { KeepsBefore seat.old seat.new }
     {
         owner_of_word(self.table.load::<OwnerLoad>(seat, own_at(c)))
     }
@@ -111,6 +117,7 @@ impl<B: Body> Laid<B> {
         ensures wait { (c : ℕ) → wait_in result ≡ Some c → c < self.now.cells }
         ensures log { IsLogged (call.sees_phase t.0) 0 0 (phases.phase_word result)
             seat.old seat.new }
+        ensures before { KeepsBefore seat.old seat.new }
     {
         Phase::of_word(self.table.load::<PhaseLoad>(seat, phase_at(t)))
     }
@@ -133,6 +140,8 @@ impl<B: Body> Laid<B> {
         // The seat's log is longer by one entry: HEAD of the cell was loaded, and the word of this
         // head found.
         ensures log { IsLogged (call.sees_head p.0) 0 0 (heads.head_word result) seat.old seat.new }
+        // Beside this entry the seat keeps the view that it had before the step.
+        ensures before { KeepsBefore seat.old seat.new }
     {
         Head::of_word(self.table.load::<HeadLoad>(seat, head_at(p)))
     }
@@ -154,6 +163,8 @@ impl<B: Body> Laid<B> {
         // The seat's log is longer by one entry: NEXT of the task was loaded, and the word of this
         // head found.
         ensures log { IsLogged (call.sees_next t.0) 0 0 (heads.head_word result) seat.old seat.new }
+        // Beside this entry the seat keeps the view that it had before the step.
+        ensures before { KeepsBefore seat.old seat.new }
     {
         Head::of_word(self.table.load::<NextLoad>(seat, next_at(t)))
     }
@@ -175,6 +186,8 @@ impl<B: Body> Laid<B> {
         // The seat's log is longer by one entry: this word of the cell was loaded, and this number
         // found.
         ensures log { IsLogged (call.sees_once c.0 f) 0 0 result seat.old seat.new }
+        // Beside this entry the seat keeps the view that it had before the step.
+        ensures before { KeepsBefore seat.old seat.new }
     {
         links_lead_to_tasks();
         self.table.load::<OnceLoad>(seat, once_at(c, f))

@@ -2,7 +2,7 @@
 //! once.
 ghost use Rattle.std.specs.Prelude.{◌≡◌, ◌+◌};
 ghost use Rattle.tj_tree.specs.Walk.{GoesOn};
-ghost use Rattle.tj_words.specs.CallLaws.StepLogs.{IsLookLogged};
+ghost use Rattle.tj_words.specs.CallLaws.StepLogs.{IsLookLogged, KeepsFour};
 ghost use Rattle.tj_words.specs.SeatViews.TreeReads.{IsLater, MayLook, TreeShown};
 
 use crate::links::link_cell;
@@ -33,6 +33,9 @@ impl<B: Body> Laid<B> {
         // The seat's log is longer by four entries: PARENT, KID, DEPTH and JUMP of the task were
         // loaded, one after the other, and found to be what the node says.
         ensures log { IsLookLogged task.0 result seat.old seat.new }
+        // Beside these entries the seat keeps the views that it had before each of the four steps,
+        // that before the call among them.
+        ensures before { KeepsFour seat.old seat.new }
     {
         let parent = self.see_once(seat, task, Once::Parent);
         let kid = self.see_once(seat, task, Once::Kid);

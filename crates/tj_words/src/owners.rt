@@ -2,7 +2,7 @@
 ghost use Rattle.std.specs.Prelude.{◌≡◌, ◌<◌};
 ghost use Rattle.tj_body.specs.Programs.{program_of};
 ghost use Rattle.tj_words.specs.CallLaws.StepCalls as call;
-ghost use Rattle.tj_words.specs.CallLaws.StepLogs.{IsLogged};
+ghost use Rattle.tj_words.specs.CallLaws.StepLogs.{IsLogged, KeepsBefore};
 ghost use Rattle.tj_words.specs.Calls.EntryViews.{MayPutBits, MayPutOnce, MayPutTag};
 ghost use Rattle.tj_words.specs.Calls.EntryViews.{PutsBits, PutsOnce, PutsTag};
 ghost use Rattle.tj_words.specs.Calls.OwnerViews.{MayPutOwner, PutsOwner};
@@ -33,6 +33,8 @@ impl<B: Body> Laid<B> {
         // cell.
         ensures log { IsLogged (call.puts_owner c.0) (owner_word (owner_number o)) 0
             (owner_word (owner_number o)) seat.old seat.new }
+        // Beside this entry the seat keeps the view that it had before the step.
+        ensures before { KeepsBefore seat.old seat.new }
     {
         event_keeps_facts();
         self.table
@@ -54,6 +56,8 @@ impl<B: Body> Laid<B> {
             seat.old.me.0 seat.new.me.0 }
         // The seat's log is longer by one entry: this number was stored into this word of the cell.
         ensures log { IsLogged (call.puts_once c.0 f) v 0 v seat.old seat.new }
+        // Beside this entry the seat keeps the view that it had before the step.
+        ensures before { KeepsBefore seat.old seat.new }
     {
         match f {
             Once::Tag => self.store_tag(seat, c, v),
@@ -71,6 +75,7 @@ impl<B: Body> Laid<B> {
         ensures view { PutsBits (program_of B.places B.awaits B.left B.asks B.then) c.0 v
             seat.old.me.0 seat.new.me.0 }
         ensures log { IsLogged (call.puts_once c.0 Once.Bits) v 0 v seat.old seat.new }
+        ensures before { KeepsBefore seat.old seat.new }
     {
         self.table.store::<BitsPut>(seat, once_at(c, Once::Bits), v);
     }
@@ -82,6 +87,7 @@ impl<B: Body> Laid<B> {
         ensures seat { IsSameSeat seat.old seat.new }
         ensures view { PutsTag c.0 v seat.old.me.0 seat.new.me.0 }
         ensures log { IsLogged (call.puts_once c.0 Once.Tag) v 0 v seat.old seat.new }
+        ensures before { KeepsBefore seat.old seat.new }
     {
         self.table.store::<TagPut>(seat, once_at(c, Once::Tag), v);
     }

@@ -4,7 +4,7 @@ ghost use Rattle.std.specs.Prelude.{◌≡◌, ◌<◌};
 ghost use Rattle.atomic_table.specs.Table.{rest};
 ghost use Rattle.tj_body.specs.Programs.{program_of};
 ghost use Rattle.tj_words.specs.CallLaws.StepCalls as call;
-ghost use Rattle.tj_words.specs.CallLaws.StepLogs.{IsLogged};
+ghost use Rattle.tj_words.specs.CallLaws.StepLogs.{IsLogged, KeepsBefore};
 ghost use Rattle.tj_words.specs.Calls.DrawViews as draws;
 ghost use Rattle.tj_words.specs.Calls.DrawViews.{MayMark};
 ghost use Rattle.tj_words.specs.Calls.LiveViews.{MayEnd, MayRelease, ended, released};
@@ -45,6 +45,8 @@ impl<B: Body> Laid<B> {
         // the cell.
         ensures log { IsLogged (call.puts_phase t.0) (phase_word p) 0 (phase_word p)
             seat.old seat.new }
+        // Beside this entry the seat keeps the view that it had before the step.
+        ensures before { KeepsBefore seat.old seat.new }
     {
         match p {
             Phase::Promise => self.put_promise(seat, t),
@@ -64,6 +66,7 @@ impl<B: Body> Laid<B> {
         ensures view { seat.new.me.0 ≡ draws.marked_promise seat.old.me.0 }
         ensures log { IsLogged (call.puts_phase c.0) (phase_word Phase.Promise) 0
             (phase_word Phase.Promise) seat.old seat.new }
+        ensures before { KeepsBefore seat.old seat.new }
     {
         self.table
             .store::<MarkStore>(seat, phase_at(c), Phase::Promise.word());
@@ -79,6 +82,7 @@ impl<B: Body> Laid<B> {
         ensures me { seat.new.me ≡ (released t.0 seat.old.me.0, seat.old.me.1) }
         ensures log { IsLogged (call.puts_phase t.0) (phase_word Phase.Ready) 0
             (phase_word Phase.Ready) seat.old seat.new }
+        ensures before { KeepsBefore seat.old seat.new }
     {
         self.table
             .store::<ReadyStore>(seat, phase_at(t), Phase::Ready.word());
@@ -96,6 +100,7 @@ impl<B: Body> Laid<B> {
         ensures puts { PutsWait t.0 p.0 way walk seat.old.me seat.new.me }
         ensures log { IsLogged (call.puts_phase t.0) (phase_word (Phase.Waiting p way walk)) 0
             (phase_word (Phase.Waiting p way walk)) seat.old seat.new }
+        ensures before { KeepsBefore seat.old seat.new }
     {
         event_keeps_facts();
         self.table
@@ -112,6 +117,7 @@ impl<B: Body> Laid<B> {
         ensures me { seat.new.me ≡ (ended t.0 seat.old.me.0, rest seat.old.me.1) }
         ensures log { IsLogged (call.puts_phase t.0) (phase_word Phase.Ended) 0
             (phase_word Phase.Ended) seat.old seat.new }
+        ensures before { KeepsBefore seat.old seat.new }
     {
         self.table
             .store::<EndedStore>(seat, phase_at(t), Phase::Ended.word());

@@ -9,7 +9,7 @@ use tj_base::{CellId, Oom, Sort};
 use tj_body::Answer;
 
 /// A value that a cell is filled with.
-#[derive(Clone, Copy, Debug, PartialEq, Eq)]
+#[derive(Clone, Copy, PartialEq, Eq)]
 pub enum Fill {
     Num(i64),
     Promise(CellId),

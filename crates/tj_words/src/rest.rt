@@ -1,5 +1,5 @@
 //! Rest: a table whose last seat has come back is closed. Its words and records stay as they are.
-ghost use Rattle.std.specs.Prelude.{◌≡◌, ◌↔◌, ◌<◌, ◌≤◌, ◌^◌, length, get_or, vec_len, vec_capacity, None};
+ghost use Rattle.std.specs.Prelude.{◌≡◌, ◌↔◌, ◌<◌, ◌≤◌, ◌^◌, List, length, get_or, vec_len, vec_capacity, None, Option};
 ghost use Rattle.std.specs.Option.{option_map};
 ghost use Rattle.tj_body.specs.Programs.{program_of};
 ghost use Rattle.tj_words.specs.AtRest.RestingSeats.{MayRest};
@@ -10,6 +10,7 @@ ghost use Rattle.tj_words.specs.AtRest.RestMeaning.{HaveMeaning, AreCyclesOfMean
 ghost use Rattle.tj_words.specs.AtRest.RestValues.{AreValuesOfMeaning, RefersBelow, value_shown};
 ghost use Rattle.tj_words.specs.AtRest.ShownCells.{AreCellsOf, AreTableWords, cell_of};
 ghost use Rattle.tj_words.specs.declared.offsets.Once.TheVariants.{Tag, Bits};
+ghost use Rattle.tj_words.specs.declared.record.Rec.{Rec};
 ghost use Rattle.tj_words.specs.Words.Offsets.{word, once_at};
 ghost use Rattle.tj_words.specs.Words.Values.{NamesCell};
 ghost use Rattle.std.specs.Slots.{IsFull, slots_items};
@@ -196,6 +197,28 @@ impl<B: Body> Laid<B> {
             strict,
             root,
         }
+    }
+
+    /// Closes the table with a seat, at rest or not, where the run ends before its rest. The records are forgotten.
+    pub fn leave(self, seat: WSeat<B>) -> Closed
+        requires { seat.table_id ≡ self.table.shared.table_id }
+        // No more cells were drawn than the table has.
+        ensures drawn { length result ≤ self.cells }
+        // What the words show of the cells is the end of a run of the table from the first state,
+        // and so are the records that lay at home beside them. The seat was one of that table.
+        ensures run { (records : List (Option (Rec B))) × EndsRun (program_of B.places B.awaits
+            B.left B.asks B.then) self.cells self.strict self.root.value seat result records }
+    {
+        let Laid {
+            table,
+            cells,
+            room,
+            ..
+        } = self;
+        let table = table.close_with(seat);
+        let shown = show_cells(&table, cells, room);
+        drop(Records { table });
+        Closed { cells: shown }
     }
 }
 

@@ -22,6 +22,11 @@ impl<B: Body> Laid<B> {
         ensures log { (result.0.log ≡ seat.log) × (result.1.log ≡ []) }
         // The first seat has taken in what it had taken in before, and the second nothing.
         ensures took { (result.0.took ≡ seat.took) × (result.1.took ≡ []) }
+        // The first seat keeps the views that it had before its steps.
+        ensures befores { (result.0.befores ≡ seat.befores)
+            × (result.0.took_befores ≡ seat.took_befores) }
+        // The second seat has none.
+        ensures other_befores { (result.1.befores ≡ []) × (result.1.took_befores ≡ []) }
     {
         let other = self.table.split_seat(&mut seat);
         (seat, other)
@@ -45,6 +50,9 @@ impl<B: Body> Laid<B> {
         // Beside it the seat has the logs that the first had taken in, then that of the second and
         // those that the second had taken in.
         ensures took { result.took ≡ a.took ++ b.log ∷ b.took }
+        // The views before the steps of each of these logs are kept beside it.
+        ensures befores { (result.befores ≡ a.befores)
+            × (result.took_befores ≡ a.took_befores ++ b.befores ∷ b.took_befores) }
     {
         self.table.join_seat(&mut a, b);
         a

@@ -183,10 +183,11 @@ fn slots_at_first<B: Body>(alloc: Global, cells: u32, root: B) -> Result<Vec<Opt
     requires some { 0 < cells }
     ensures { IfOk result (λ slots. slots.items ≡ first_slots cells root) }
 {
+    let root = root_record(alloc, root)?;
     let mut slots = Vec::with_capacity(alloc, cells as usize)?;
-    slots.push(Some(root_record(alloc, root)?))?;
+    slots.push_reserved(Some(root));
     for _i in 1..cells {
-        slots.push(None)?;
+        slots.push_reserved(None);
     }
     Ok(slots)
 }

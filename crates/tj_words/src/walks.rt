@@ -4,7 +4,7 @@ ghost use Rattle.tj_events.specs.CoreState.{present};
 ghost use Rattle.tj_events.specs.Events.{MayCount, MayReadOthers};
 ghost use Rattle.tj_events.specs.Events.{count_read, others_read, wait_found};
 ghost use Rattle.tj_words.specs.CallLaws.StepCalls as call;
-ghost use Rattle.tj_words.specs.CallLaws.StepLogs.{IsLogged};
+ghost use Rattle.tj_words.specs.CallLaws.StepLogs.{IsLogged, KeepsBefore};
 ghost use Rattle.tj_words.specs.Words.Codes as codes;
 ghost use Rattle.tj_words.specs.Words.Owners.{owner_in, owner_number, owner_word};
 ghost use Rattle.tj_words.specs.Calls.MetCells.{LoadsOwner, LoadsPhase};
@@ -51,6 +51,8 @@ impl<B: Body> Laid<B> {
         // answer is as many as are cells of the table.
         ensures log { (n : ℕ) × (result ≡ min n self.now.cells)
             × IsLogged call.counts 0 0 n seat.old seat.new }
+        // Beside this entry the seat keeps the view that it had before the step.
+        ensures before { KeepsBefore seat.old seat.new }
     {
         match by {
             None => self.plain_count(seat),
@@ -70,6 +72,7 @@ impl<B: Body> Laid<B> {
             ≡ read_on t.0 (count_read (min result self.now.cells)) seat.old.me.0 }
         ensures some { steps.IsCount self.now.cells result }
         ensures log { IsLogged (call.counts_by t.0) 0 0 result seat.old seat.new }
+        ensures before { KeepsBefore seat.old seat.new }
     {
         event_keeps_facts();
         let _ = t;
@@ -96,6 +99,8 @@ impl<B: Body> Laid<B> {
         // was loaded, and the word of this owner found.
         ensures log { IsLogged (call.sees_owner c.0) 0 0 (owner_word (owner_number result))
             seat.old seat.new }
+        // Beside this entry the seat keeps the view that it had before the step.
+        ensures before { KeepsBefore seat.old seat.new }
     {
         match by {
             None => self.plain_owner(seat, c),
@@ -114,6 +119,7 @@ impl<B: Body> Laid<B> {
             ≡ read_on t.0 (λ w. owner_seen (owner_in result) w w.last) seat.old.me.0 }
         ensures owner { result ≤ self.now.cells }
         ensures log { IsLogged (call.sees_owner_by t.0 c.0) 0 0 result seat.old seat.new }
+        ensures before { KeepsBefore seat.old seat.new }
     {
         event_keeps_facts();
         let _ = t;
@@ -141,6 +147,8 @@ impl<B: Body> Laid<B> {
         // The seat's log is longer by one entry, whether a walker is named or not: PHASE of the
         // cell was loaded, and the word of this phase found.
         ensures log { IsLogged (call.sees_phase t.0) 0 0 (phase_word result) seat.old seat.new }
+        // Beside this entry the seat keeps the view that it had before the step.
+        ensures before { KeepsBefore seat.old seat.new }
     {
         match by {
             None => self.plain_phase(seat, t),
@@ -158,6 +166,7 @@ impl<B: Body> Laid<B> {
             ≡ read_on t.0 (wait_found u.0 (wait_in (phase_in result))) seat.old.me.0 }
         ensures phase { codes.IsPhaseWord self.now.cells result }
         ensures log { IsLogged (call.sees_phase_by t.0 u.0) 0 0 result seat.old seat.new }
+        ensures before { KeepsBefore seat.old seat.new }
     {
         event_keeps_facts();
         let _ = t;
@@ -174,6 +183,8 @@ impl<B: Body> Laid<B> {
         ensures view { seat.new.me.0 ≡ read_on by.0 (others_read result) seat.old.me.0 }
         // The seat's log is longer by one entry: OTHERS was loaded, and this number found.
         ensures log { IsLogged (call.sees_others_by by.0) 0 0 result seat.old seat.new }
+        // Beside this entry the seat keeps the view that it had before the step.
+        ensures before { KeepsBefore seat.old seat.new }
     {
         self.walker_others::<Brand>(seat, by) as u32
     }
@@ -186,6 +197,7 @@ impl<B: Body> Laid<B> {
         ensures view { seat.new.me.0 ≡ read_on t.0 (others_read result) seat.old.me.0 }
         ensures few { result < 2 ^ 32 }
         ensures log { IsLogged (call.sees_others_by t.0) 0 0 result seat.old seat.new }
+        ensures before { KeepsBefore seat.old seat.new }
     {
         event_keeps_facts();
         others_are_few();
@@ -203,6 +215,8 @@ impl<B: Body> Laid<B> {
         ensures view { seat.new.me.0 ≡ turned t.0 (λ _. Does.Raised) seat.old.me.0 }
         // The seat's log is longer by one entry: 1 was added to OTHERS.
         ensures log { (n : ℕ) × IsLogged (call.raises_others t.0) 1 0 n seat.old seat.new }
+        // Beside this entry the seat keeps the view that it had before the step.
+        ensures before { KeepsBefore seat.old seat.new }
     {
         self.add_other::<Brand>(seat, t);
     }
@@ -214,6 +228,7 @@ impl<B: Body> Laid<B> {
         ensures seat { IsSameSeat seat.old seat.new }
         ensures view { seat.new.me.0 ≡ turned t.0 (λ _. Does.Raised) seat.old.me.0 }
         ensures log { (n : ℕ) × IsLogged (call.raises_others t.0) 1 0 n seat.old seat.new }
+        ensures before { KeepsBefore seat.old seat.new }
     {
         event_keeps_facts();
         others_are_few();
@@ -231,6 +246,8 @@ impl<B: Body> Laid<B> {
         ensures view { seat.new.me.0 ≡ lowered seat.old.me.0 }
         // The seat's log is longer by one entry: 1 was subtracted from OTHERS.
         ensures log { (n : ℕ) × IsLogged call.lowers_others 1 0 n seat.old seat.new }
+        // Beside this entry the seat keeps the view that it had before the step.
+        ensures before { KeepsBefore seat.old seat.new }
     {
         event_keeps_facts();
         others_are_few();

@@ -61,6 +61,8 @@ module _ {B : Type 0} (program : Bool → B → Program B) (root : B) (cells : �
       seat_is = e.seat_is;
       log = e.log;
       took = e.took;
+      befores = e.befores;
+      took_befores = e.took_befores;
       shown = subst (λ n. AreCellsOf e.last.words n r.cells) of_cells e.shown;
       home = e.home;
     },

@@ -2,7 +2,7 @@
 use Rattle.tj_words.proofs.Prelude.{AreCellsOf, Bool, Key, List, Option, Program, Rec, RestCell, View, ap, subst}
 use Rattle.tj_words.proofs.Prelude.{sym, ℕ, ◌∙◌, ◌≡◌}
 use Rattle.tj_log.specs.Asks.{Ended}
-use Rattle.tj_log.specs.Runs.{Past, log_of, took_of}
+use Rattle.tj_log.specs.Runs.{Past, befores_of, log_of, took_befores_of, took_of}
 use Rattle.tj_log.specs.Shown.{SeatShown}
 use Rattle.tj_words.proofs.Calls.LoggedRuns.{ran}
 use Rattle.tj_words.specs.AtRest.EndedRuns.{EndsRun}
@@ -23,6 +23,8 @@ ends_run {B = B} program key seat e {limit = limit} a b c {shown = shown} are =
       seat_is = e.3;
       log = e.4 ∙ ap (λ (q : Past (Option (Rec B)) (View B)). log_of seat.id q) (sym run.1);
       took = e.5 ∙ ap (λ (q : Past (Option (Rec B)) (View B)). took_of seat.id q) (sym run.1);
+      befores = e.9 ∙ ap (λ (q : Past (Option (Rec B)) (View B)). befores_of seat.id q) (sym run.1);
+      took_befores = e.10 ∙ ap (λ (q : Past (Option (Rec B)) (View B)). took_befores_of seat.id q) (sym run.1);
       shown = subst (λ w. AreCellsOf w limit shown) (sym e.6) are;
       home = e.8;
     }

@@ -4,7 +4,7 @@ use mathlib.Core.Option.{some}
 use lib.ListN.{get_elem?}
 use Rattle.atomic_table.specs.Table.{State}
 use Rattle.tj_body.specs.Programs.{Program}
-use Rattle.tj_log.specs.Runs.{log_of, took_of}
+use Rattle.tj_log.specs.Runs.{befores_of, log_of, took_befores_of, took_of}
 use Rattle.tj_log.specs.Shown.{SeatShown}
 use Rattle.tj_words.specs.declared.closed.RestCell.{RestCell}
 use Rattle.tj_words.specs.declared.record.Rec.{Rec}
@@ -28,6 +28,9 @@ pub record EndsRun {B : Type 0} (program : Bool → B → Program B) (limit : �
   -- its log has its own steps of that run, and beside it it has the logs of the seats that it has taken in
   pub log : seat.log ≡ log_of seat.id run.past
   pub took : seat.took ≡ took_of seat.id run.past
+  -- and with each step of these logs the view before it
+  pub befores : seat.befores ≡ befores_of seat.id run.past
+  pub took_befores : seat.took_befores ≡ took_befores_of seat.id run.past
   pub shown : AreCellsOf last.words limit cells
   -- what lies at home is what the slot has
   pub home : (c : ℕ) (r : Option (Rec B)) → get_elem? last.homes c ≡ some (some r) → get_elem? records c ≡ some r

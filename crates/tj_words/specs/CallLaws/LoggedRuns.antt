@@ -6,7 +6,9 @@ use Rattle.atomic_table.specs.Table.{State, opening}
 use Rattle.tj_body.specs.Points.{IsIn}
 use Rattle.tj_body.specs.Programs.{Program}
 use Rattle.tj_log.specs.Logs.{own_state}
-use Rattle.tj_log.specs.Runs.{IsRun, Kept, Past, begins, joins, log_of, splits, steps, tell, took_of}
+use Rattle.tj_log.specs.Laws.{AreWith}
+use Rattle.tj_log.specs.Runs.{IsRun, Kept, Past, befores_of, begins, joins, log_of, splits, steps, tell}
+use Rattle.tj_log.specs.Runs.{took_befores_of, took_of}
 use Rattle.tj_log.specs.declared.entry.Entry.{Entry}
 use Rattle.tj_log.specs.declared.entry.Logged.{Logged}
 use Rattle.tj_words.specs.declared.record.Rec.{Rec}
@@ -51,6 +53,27 @@ module _ {B : Type 0} (program : Bool → B → Program B) (key : Key B) where
   AreStepsOf j (e ∷ es) u (w ∷ ws) a =
       (IsEntry j e u.now w.now a.0 × AreStepsOf j es w ws a.1) ⊎ AreStepsOf j (e ∷ es) w ws a.1
 
+  -- this step is a call of a seat that had this view before it
+  abbrev pub HadView : View B → (s t : State (Option (Rec B)) (View B)) → IsAskedStep program key s t → Type 0
+  HadView v s t (inl c) = c.made.seat.0 ≡ v
+  HadView v s t (inr b) = ⊥
+
+  -- these entries are steps of the seat j among these moments, in this order, and each was made with its view before it
+  abbrev pub AreStepsWith : ℕ → List Entry → List (View B) → (u : Ruled program key) (later : List (Ruled program key))
+      → AreAskedMoments program key u later → Type 0
+  AreStepsWith j [] [] u later a = Unit {0}
+  AreStepsWith j [] (v ∷ vs) u later a = ⊥
+  AreStepsWith j (e ∷ es) [] u later a = ⊥
+  AreStepsWith j (e ∷ es) (v ∷ vs) u [] a = ⊥
+  AreStepsWith j (e ∷ es) (v ∷ vs) u (w ∷ ws) a =
+      (IsEntry j e u.now w.now a.0 × HadView v u.now w.now a.0 × AreStepsWith j es vs w ws a.1)
+      ⊎ AreStepsWith j (e ∷ es) (v ∷ vs) w ws a.1
+
+  -- these are a log and the views before its steps, of some seat
+  abbrev pub IsLogWith : (u : Ruled program key) (later : List (Ruled program key)) → AreAskedMoments program key u later
+      → List Entry → List (View B) → Type 0
+  IsLogWith u later a log views = (i : ℕ) × AreStepsWith i (in_order log) (in_order views) u later a
+
   -- a run from the first state of a table to this one, by the steps of the past that tj_log keeps: the moments are
   -- those of that past, and the logs of the seats have their steps
   pub record HasRun (s : State (Option (Rec B)) (View B)) : Type 0 where
@@ -69,6 +92,10 @@ module _ {B : Type 0} (program : Bool → B → Program B) (key : Key B) where
     -- each log that a seat has taken in has the steps of a seat, too
     pub taken : (j : ℕ) (log : List Entry) → IsIn log (took_of j past)
         → (i : ℕ) × AreStepsOf i (in_order log) first later moments
+    -- the view that stands beside an entry of a log is the one that the seat had before this step
+    pub befores : (j : ℕ) → AreStepsWith j (in_order (log_of j past)) (in_order (befores_of j past)) first later moments
+    -- so it is of the logs that a seat has taken in
+    pub took_befores : (j : ℕ) → AreWith (IsLogWith first later moments) (took_of j past) (took_befores_of j past)
 
 -- each table with logs has one, of the past that its logs are of
 abbrev pub TablesHaveRuns : Type 0 → Type 0

@@ -59,6 +59,15 @@ module _ {B : Type 0} where
       → SeatShown (Option (Rec B)) (View B) → Type 0
   IsLogged c a b n old new = (new.log ≡ entry_of c a b n ∷ old.log) × (new.took ≡ old.took)
 
+  -- the view before this one step stands beside its entry
+  abbrev pub KeepsBefore : SeatShown (Option (Rec B)) (View B) → SeatShown (Option (Rec B)) (View B) → Type 0
+  KeepsBefore old new = (new.befores ≡ old.me.0 ∷ old.befores) × (new.took_befores ≡ old.took_befores)
+
+  -- so it does for each of four steps, of which the first was made with the view before
+  abbrev pub KeepsFour : SeatShown (Option (Rec B)) (View B) → SeatShown (Option (Rec B)) (View B) → Type 0
+  KeepsFour old new = (second third fourth : View B)
+      × (new.befores ≡ fourth ∷ third ∷ second ∷ old.me.0 ∷ old.befores) × (new.took_befores ≡ old.took_befores)
+
   -- the seat has looked at the node of a task: it has loaded these four words, the last of them first here
   abbrev pub IsLookLogged : ℕ → Node → SeatShown (Option (Rec B)) (View B) → SeatShown (Option (Rec B)) (View B)
       → Type 0

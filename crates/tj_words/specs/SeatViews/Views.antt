@@ -159,7 +159,8 @@ module _ {B : Type 0} where
     rested = v.rested;
   }
 
-  -- a seat takes another in, and knows what either of them knew, but for that one's notes
+  -- a seat takes another in, and knows what either of them knew, but for that one's notes and the records that its
+  -- steps took
   abbrev pub both : View B → View B → View B
   both v w = record v {
     lot = v.lot + w.lot;

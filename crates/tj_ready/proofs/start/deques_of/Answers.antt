@@ -21,7 +21,8 @@ loop-at-preserved g c =
     subst (IsNewOwner (flavor_of g.K.PoolRule.newest) (g.K.PoolRule.own c.args.cells)) (sym c.index.ensures)
     (c.requires c.loop-at.at own here) in (
       ap (map stealer_deque) c.in_ok-push.ensures.items
-          ∙ known_next stealer_deque worker_deque deques owners c.loop-at.at deque own here c.index.ensures made.0 inv.0,
+          ∙ known_next stealer_deque worker_deque deques owners c.loop-at.at deque own here c.index.ensures made.0
+          inv.0,
       more_all (λ d. stealer_flavor d ≡ flavor_of g.K.PoolRule.newest) _ _ _ c.in_ok-push.ensures.items
           (made.1 ∙ new.order) inv.1,
     )

@@ -44,7 +44,8 @@ loop-at-preserved g c =
       after ∙ size,
       (let one = inv.3 in omega arith),
       (let one = inv.3 in omega arith),
-      subst (AreSeats deques) (sym pushed) (seat_more deques seats seat (λ e. subst (λ k. IsPassOf (get_or deques k e) seat)
+      subst (AreSeats deques) (sym pushed) (seat_more deques seats seat
+          (λ e. subst (λ k. IsPassOf (get_or deques k e) seat)
           (sym inv.3) (subst (λ ds. IsPassOf (get_or ds at e) seat) inv.1 (subst (λ q. IsPassOf q seat)
           (sym (known_at worker_deque owners at own e here is)) pass.0))) inv.5),
       one_more view (λ v. v ≡ g.K.PoolRule.other c.args.cells) _ _ _ pushed pass.1 inv.6,

@@ -5,12 +5,14 @@ use Rattle.tj_words.proofs.table.slots_at_first.Goals as goal
 
 pub loop-i-preserved : goal.loop-i-preserved
 loop-i-preserved g c = let i = c.loop-i.invariant in record {
-  so_far = c.in_ok-push-2.ensures.items
+  so_far = c.push_reserved-in-loop-i.ensures.items
       ∙ (ap (λ l. l ++ None ∷ []) i.so_far
       ∙ ap (λ l. Some (root_record c.args.root) ∷ l) (replicate_more (c.loop-i._i - 1) None
       ∙ ap (λ n. replicate n None)
       (let n : c.loop-i._i - 1 + 1 ≡ c.loop-i._i + 1 - 1 = (let s = i.some in omega arith) in n)));
   some = omega arith;
+  length = (let n = i.length in omega arith);
+  room = (let r = i.room in omega arith);
 }
 
 pub returns : goal.returns

@@ -27,7 +27,8 @@ invariant_of-push-clause-own_cells g c =
 
 pub invariant_of-push-clause-other_cells : goal.invariant_of-push-clause-other_cells
 invariant_of-push-clause-other_cells g c =
-    let hand = (All-pop (λ seats. IsHand (map worker_deque c.args.owners.items) (g.K.PoolRule.other c.args.cells) seats.items)
+    let hand = (All-pop
+    (λ seats. IsHand (map worker_deque c.args.owners.items) (g.K.PoolRule.other c.args.cells) seats.items)
     _ _ (Some c.in-Some-pop.seats) c.in-Some-pop.ensures.items c.loop-own.invariant.1).1 in
     λ k d less. ap g.K.PoolRule.limit (hand.start k d less) ∙ g.met.K.PoolRule.kept.other_limit c.args.cells
 
@@ -38,14 +39,16 @@ invariant_of-push-clause-flavors g c =
 
 pub invariant_of-push-clause-count : goal.invariant_of-push-clause-count
 invariant_of-push-clause-count g c =
-    let hand = (All-pop (λ seats. IsHand (map worker_deque c.args.owners.items) (g.K.PoolRule.other c.args.cells) seats.items)
+    let hand = (All-pop
+    (λ seats. IsHand (map worker_deque c.args.owners.items) (g.K.PoolRule.other c.args.cells) seats.items)
     _ _ (Some c.in-Some-pop.seats) c.in-Some-pop.ensures.items c.loop-own.invariant.1).1 in
     hand.count ∙ sym (ap length c.requires.deques) ∙ length-map c.args.deques.now.value.items stealer_deque
     ∙ ap (λ ds. length ds.items) (sym c.in_ok-try_clone.ensures)
 
 pub invariant_of-push-clause-seated : goal.invariant_of-push-clause-seated
 invariant_of-push-clause-seated g c =
-    let hand = (All-pop (λ seats. IsHand (map worker_deque c.args.owners.items) (g.K.PoolRule.other c.args.cells) seats.items)
+    let hand = (All-pop
+    (λ seats. IsHand (map worker_deque c.args.owners.items) (g.K.PoolRule.other c.args.cells) seats.items)
     _ _ (Some c.in-Some-pop.seats) c.in-Some-pop.ensures.items c.loop-own.invariant.1).1 in
     subst (λ ds. AreSeats ds c.in-Some-pop.seats.items)
     (sym c.requires.deques ∙ ap (λ ds. map stealer_deque ds.items) (sym c.in_ok-try_clone.ensures)) hand.each

@@ -19,7 +19,8 @@ invariant_of-self g c =
       flavor = end.flavor;
       own_cells = end.own_cells;
       spare_cells = end.spare_cells;
-      other_cells = all_found (λ v. limit v ≡ end.cells) g.K.PoolRule.takes (All (left_there g.K.PoolRule.newest g.K.PoolRule.empty g.K.PoolRule.few))
+      other_cells = all_found (λ v. limit v ≡ end.cells) g.K.PoolRule.takes
+          (All (left_there g.K.PoolRule.newest g.K.PoolRule.empty g.K.PoolRule.few))
           (known_in end.seats.items) c.steal_first.result _
           (λ v w t by is. law.taken_limit v w t by ∙ is) c.steal_first.ensures.taken end.other_cells;
       flavors = end.flavors;
@@ -31,6 +32,8 @@ invariant_of-self g c =
 pub returns-clause-below : goal.returns-clause-below
 returns-clause-below g c =
     let end = c.args.self.now in
-    found_below g.K.PoolRule.takes g.K.PoolRule.limit end.cells (All (left_there g.K.PoolRule.newest g.K.PoolRule.empty g.K.PoolRule.few)) (known_in end.seats.items)
+    found_below g.K.PoolRule.takes g.K.PoolRule.limit end.cells
+    (All (left_there g.K.PoolRule.newest g.K.PoolRule.empty g.K.PoolRule.few)) (known_in end.seats.items)
     c.steal_first.result
-    (known_in c.steal_first.new.seats.items) g.met.K.PoolRule.kept.taken_below c.steal_first.ensures.taken end.other_cells
+    (known_in c.steal_first.new.seats.items) g.met.K.PoolRule.kept.taken_below c.steal_first.ensures.taken
+    end.other_cells
