@@ -33,7 +33,7 @@ DEADLOCK = ("task main() {\n  let p = new;\n  let q = new;\n  fork a(own p, q);\
 # What a row shows, the words, a script, and the text.
 TOLD = (
     ("a promise owed", "", OWED,
-     "owed: the promise 0.1 (made at 2:11) was never set: 0 (task main) owned it and ended at 3:3\n"),
+     "owed: the promise 0.1 (p, made at 2:11) was never set: 0 (task main) owned it and ended at 3:3\n"),
     ("the same as a graph", "--dot --steps 7", OWED,
      'digraph tasks {\n  node [shape=box];\n  "0" [label="0\\nmain\\n3:3"];\n'
      '  "0.1" [shape=ellipse, style=filled, fillcolor=khaki];\n  "0.1" -> "0" [style=dotted];\n}\n'),
@@ -43,130 +43,132 @@ TOLD = (
     ("too few cells", "--cells 1 --all", OWED, "full: more than 1 cells\n"),
     ("a cell too few", "--cells 2", OWES_AT_THE_BRACE, "full: more than 2 cells\n"),
     ("just enough, and a promise that is owed at the closing brace", "--cells 3", OWES_AT_THE_BRACE,
-     "owed: the promise 0.1 (made at 1:23) was never set: 0 (task main) owned it and ended at 1:40\n"),
+     "owed: the promise 0.1 (p, made at 1:23) was never set: 0 (task main) owned it and ended at 1:40\n"),
     ("several tasks", "--short", SEVERAL,
      "deadlock: 2 tasks wait for each other\n"
-     "  0.3.1 (task left(0.1, 0.2), forked at 20:3) waits at 2:10 for the promise 0.2 (made at 5:24), which 0.4 owns\n"
-     "  0.4 (task left(0.2, 0.1), forked at 9:57) waits at 2:10 for the promise 0.1 (made at 5:11), which 0.3.1 owns\n"
-     "failed: 0 (task main) at 16:18: kind\n"
-     "failed: 0.6 (task faulty(0.5), forked at 14:11) at 23:47: owner 0.5 (made at 13:11), handed twice here\n"
-     "  owed: the promise 0.5 (made at 13:11) was never set: "
+     "  0.3.1 (task left(0.1, 0.2), forked at 20:3) waits at 2:10 for the promise 0.2 (q, made at 5:24), "
+     "which 0.4 owns\n"
+     "  0.4 (task left(0.2, 0.1), forked at 9:57) waits at 2:10 for the promise 0.1 (p, made at 5:11), "
+     "which 0.3.1 owns\n"
+     "failed: 0 (task main) at 16:18: kind, the task 0 where a number is wanted\n"
+     "failed: 0.6 (task faulty(0.5), forked at 14:11) at 23:47: owner 0.5 (r, made at 13:11), handed twice here\n"
+     "  owed: the promise 0.5 (r, made at 13:11) was never set: "
      "0.6 (task faulty(0.5), forked at 14:11) owned it and failed at 23:47\n"),
     ("a task at its second wait, and a promise that was set", "--short",
      "task main() {\n  let p = new; let q = new;\n  set p = 1;\n  let a = get p; let b = get q;\n}",
      "deadlock: 1 task waits for itself\n"
-     "  0 (task main) waits at 4:26 for the promise 0.2 (made at 2:24), which 0 owns\n"),
+     "  0 (task main) waits at 4:26 for the promise 0.2 (q, made at 2:24), which 0 owns\n"),
     ("a task joins itself, and waits", "--short", ITSELF,
      "deadlock: 1 task waits for itself\n  0 (task main) waits at 1:24 for the task 0\n"),
     ("under the strict rule it fails", "--strict --short", ITSELF, "failed: 0 (task main) at 1:24: order 0\n"),
     ("forks in a loop, tabs and carriage returns", "--short", IN_A_LOOP,
-     "failed: 0.2 (task f(1), forked at 4:3) at 8:25: kind\n"),
+     "failed: 0.2 (task f(1), forked at 4:3) at 8:25: kind, the task 0.2 where a promise is wanted\n"),
     ("a promise that is handed three times, and a fault behind `or`", "--short",
      "task main() { let p = new; fork a(own p); get p or 1 / 0; } task a(p) { fork b(own p); } "
      "task b(p) { fork c(own p); } task c(p) { }",
-     "failed: 0 (task main) at 1:43: arith\n"
-     "owed: the promise 0.1 (made at 1:23) was never set: "
+     "failed: 0 (task main) at 1:43: arith, division by zero\n"
+     "owed: the promise 0.1 (p, made at 1:23) was never set: "
      "0.2.1.1 (task c(0.1), forked at 1:102) owned it and ended at 1:131\n"),
     ("a fork that is refused makes nothing, and a task waits for what it owns", "--short",
      "task main() { let p = new; let q = new; fork f(own p, own q); fork f(own p, own q); } "
      "task f(a, b) { get a; }",
      "deadlock: 1 task waits for itself\n"
-     "  0.3 (task f(0.1, 0.2), forked at 1:41) waits at 1:102 for the promise 0.1 (made at 1:23), which 0.3 owns\n"
-     "failed: 0 (task main) at 1:63: owner 0.1 (made at 1:23), handed to 0.3 at 1:41\n"),
+     "  0.3 (task f(0.1, 0.2), forked at 1:41) waits at 1:102 for the promise 0.1 (p, made at 1:23), which 0.3 owns\n"
+     "failed: 0 (task main) at 1:63: owner 0.1 (p, made at 1:23), handed to 0.3 at 1:41\n"),
     ("an `if` with an `else` in a loop, a loop in it, and a promise that is owed", "--short",
      "task main() { let i = 0; while i < 2 { if i { while 1 { let x = new; set x = 1 / 0; } } "
      "else { fork g(); } i = i + 1; } } task g() { return 1; }",
-     "failed: 0 (task main) at 1:70: arith\n"
-     "  owed: the promise 0.2 (made at 1:65) was never set: 0 (task main) owned it and failed at 1:70\n"),
+     "failed: 0 (task main) at 1:70: arith, division by zero\n"
+     "  owed: the promise 0.2 (x, made at 1:65) was never set: 0 (task main) owned it and failed at 1:70\n"),
     ("a condition that is no number", "--short", "task main() { let p = new; while p { } }",
-     "failed: 0 (task main) at 1:28: kind\n"
-     "  owed: the promise 0.1 (made at 1:23) was never set: 0 (task main) owned it and failed at 1:28\n"),
+     "failed: 0 (task main) at 1:28: kind, the promise 0.1 where a number is wanted\n"
+     "  owed: the promise 0.1 (p, made at 1:23) was never set: 0 (task main) owned it and failed at 1:28\n"),
     ("a block that isn't taken", "", "task main() { let p = new; if 0 { while 1 { print 1; } } }",
-     "owed: the promise 0.1 (made at 1:23) was never set: 0 (task main) owned it and ended at 1:58\n"),
+     "owed: the promise 0.1 (p, made at 1:23) was never set: 0 (task main) owned it and ended at 1:58\n"),
     ("a set without the right to it before the cycle that waits for it", "--short",
      "task main() {\n  let p = new;\n  fork f(own p);\n  fork g(p);\n  set p = 1;\n}\n"
      "task f(q) { get q; }\ntask g(q) { get q; }\n",
-     "failed: 0 (task main) at 5:3: owner 0.1 (made at 2:11), handed to 0.2 at 3:3\n"
+     "failed: 0 (task main) at 5:3: owner 0.1 (p, made at 2:11), handed to 0.2 at 3:3\n"
      "deadlock: 1 task waits for itself\n"
-     "  0.2 (task f(0.1), forked at 3:3) waits at 7:13 for the promise 0.1 (made at 2:11), which 0.2 owns\n"
-     "  behind a deadlock: 0.3 (task g(0.1), forked at 4:3) waits at 8:13 for the promise 0.1 (made at 2:11), "
+     "  0.2 (task f(0.1), forked at 3:3) waits at 7:13 for the promise 0.1 (p, made at 2:11), which 0.2 owns\n"
+     "  behind a deadlock: 0.3 (task g(0.1), forked at 4:3) waits at 8:13 for the promise 0.1 (p, made at 2:11), "
      "which 0.2 owns\n"),
     ("echoes below the failure with which they began, and what failed tasks owed", "--short",
      "task main() {\n  let t = fork bad();\n  let u = fork mid(t);\n  fork last(u);\n}\n"
      "task bad() { let p = new; let x = 1 / 0; }\ntask mid(t) { let p = new; join t; }\n"
      "task last(u) { join u; }\n",
-     "failed: 0.1 (task bad, forked at 2:11) at 6:27: arith\n"
-     "  owed: the promise 0.1.1 (made at 6:22) was never set: 0.1 (task bad, forked at 2:11) owned it and "
+     "failed: 0.1 (task bad, forked at 2:11) at 6:27: arith, division by zero\n"
+     "  owed: the promise 0.1.1 (p, made at 6:22) was never set: 0.1 (task bad, forked at 2:11) owned it and "
      "failed at 6:27\n"
      "  failed: 0.2 (task mid(0.1), forked at 3:11) at 7:28: broken 0.1 (made at 2:11), at first from 0.1, "
      "which failed at 6:27\n"
-     "  owed: the promise 0.2.1 (made at 7:23) was never set: 0.2 (task mid(0.1), forked at 3:11) owned it and "
+     "  owed: the promise 0.2.1 (p, made at 7:23) was never set: 0.2 (task mid(0.1), forked at 3:11) owned it and "
      "failed at 7:28\n"
      "  failed: 0.3 (task last(0.2), forked at 4:3) at 8:16: broken 0.2 (made at 3:11), at first from 0.1, "
      "which failed at 6:27\n"),
     ("many that are alike: waits behind a task that waits for itself", "--short", MANY,
      "deadlock: 1 task waits for itself\n"
-     "  0 (task main) waits at 5:3 for the promise 0.1 (made at 2:11), which 0 owns\n"
+     "  0 (task main) waits at 5:3 for the promise 0.1 (p, made at 2:11), which 0 owns\n"
      "  behind a deadlock: 0.2, 0.3 and 28 more of task client (forked at 4:18) wait at 7:18 for the promise 0.1 "
-     "(made at 2:11), which 0 owns\n"),
+     "(p, made at 2:11), which 0 owns\n"),
     ("many failures, their debts, and cycles that are alike", "--short", CROWD,
      "deadlock: 2 times 1 task waits for itself\n"
-     "  0.4 and 0.5 of task loner wait at 8:29 for promises (made at 8:24)\n"
-     "failed: 0.1, 0.2 and 1 more of task client (forked at 3:17) at 7:31: arith\n"
-     "  owed: the promises 0.1.1, 0.2.1 and 1 more (made at 7:26) were never set: "
+     "  0.4 and 0.5 of task loner wait at 8:29 for promises (p, made at 8:24)\n"
+     "failed: 0.1, 0.2 and 1 more of task client (forked at 3:17) at 7:31: arith, division by zero\n"
+     "  owed: the promises 0.1.1, 0.2.1 and 1 more (p, made at 7:26) were never set: "
      "task client owned each and failed at 7:31\n"),
     ("the same, each told by itself", "--all --short", CROWD,
      "deadlock: 1 task waits for itself\n"
-     "  0.4 (task loner, forked at 4:3) waits at 8:29 for the promise 0.4.1 (made at 8:24), which 0.4 owns\n"
+     "  0.4 (task loner, forked at 4:3) waits at 8:29 for the promise 0.4.1 (p, made at 8:24), which 0.4 owns\n"
      "deadlock: 1 task waits for itself\n"
-     "  0.5 (task loner, forked at 5:3) waits at 8:29 for the promise 0.5.1 (made at 8:24), which 0.5 owns\n"
-     "failed: 0.1 (task client(0), forked at 3:17) at 7:31: arith\n"
-     "  owed: the promise 0.1.1 (made at 7:26) was never set: 0.1 (task client(0), forked at 3:17) owned it and "
+     "  0.5 (task loner, forked at 5:3) waits at 8:29 for the promise 0.5.1 (p, made at 8:24), which 0.5 owns\n"
+     "failed: 0.1 (task client(0), forked at 3:17) at 7:31: arith, division by zero\n"
+     "  owed: the promise 0.1.1 (p, made at 7:26) was never set: 0.1 (task client(0), forked at 3:17) owned it and "
      "failed at 7:31\n"
-     "failed: 0.2 (task client(1), forked at 3:17) at 7:31: arith\n"
-     "  owed: the promise 0.2.1 (made at 7:26) was never set: 0.2 (task client(1), forked at 3:17) owned it and "
+     "failed: 0.2 (task client(1), forked at 3:17) at 7:31: arith, division by zero\n"
+     "  owed: the promise 0.2.1 (p, made at 7:26) was never set: 0.2 (task client(1), forked at 3:17) owned it and "
      "failed at 7:31\n"
-     "failed: 0.3 (task client(2), forked at 3:17) at 7:31: arith\n"
-     "  owed: the promise 0.3.1 (made at 7:26) was never set: 0.3 (task client(2), forked at 3:17) owned it and "
+     "failed: 0.3 (task client(2), forked at 3:17) at 7:31: arith, division by zero\n"
+     "  owed: the promise 0.3.1 (p, made at 7:26) was never set: 0.3 (task client(2), forked at 3:17) owned it and "
      "failed at 7:31\n"),
     ("promises of one task that one statement made", "--short",
      "task main() {\n  let i = 0;\n  while i < 3 { let p = new; i = i + 1; }\n}\n",
-     "owed: the promises 0.1, 0.2 and 1 more (made at 3:25) were never set: 0 (task main) owned them and "
+     "owed: the promises 0.1, 0.2 and 1 more (p, made at 3:25) were never set: 0 (task main) owned them and "
      "ended at 4:1\n"),
     ("promises that were set at one statement, and set once more", "--short",
      "task main() {\n  fork f();\n  fork f();\n}\ntask f() {\n  let p = new;\n  set p = 1;\n  set p = 2;\n}\n",
-     "failed: 0.1 and 0.2 of task f at 8:3: owner (made at 6:11), set at 7:3\n"),
+     "failed: 0.1 and 0.2 of task f at 8:3: owner (p, made at 6:11), set at 7:3\n"),
     ("promises that went to two tasks, which owed them", "--short",
      "task main() {\n  fork f();\n  fork f();\n}\ntask f() {\n  let p = new;\n  fork g(own p);\n  set p = 2;\n}\n"
      "task g(p) { }\n",
-     "failed: 0.1 and 0.2 of task f at 8:3: owner (made at 6:11)\n"
-     "owed: the promises 0.1.1 and 0.2.1 (made at 6:11) were never set: task g owned each and ended at 10:13\n"),
+     "failed: 0.1 and 0.2 of task f at 8:3: owner (p, made at 6:11)\n"
+     "owed: the promises 0.1.1 and 0.2.1 (p, made at 6:11) were never set: task g owned each and ended at 10:13\n"),
     ("source lines below a cycle's members, and none below a wait behind it", "", DEADLOCK,
      "deadlock: 2 tasks wait for each other\n"
-     "  0.3 (task a(0.1, 0.2), forked at 4:3) waits at 9:10 for the promise 0.2 (made at 3:11), which 0.4 owns\n"
+     "  0.3 (task a(0.1, 0.2), forked at 4:3) waits at 9:10 for the promise 0.2 (q, made at 3:11), which 0.4 owns\n"
      "\tlet z = get other; set mine = z;\n"
      "\t        ^\n"
-     "  0.4 (task a(0.2, 0.1), forked at 5:3) waits at 9:10 for the promise 0.1 (made at 2:11), which 0.3 owns\n"
+     "  0.4 (task a(0.2, 0.1), forked at 5:3) waits at 9:10 for the promise 0.1 (p, made at 2:11), which 0.3 owns\n"
      "\tlet z = get other; set mine = z;\n"
      "\t        ^\n"
-     "  behind a deadlock: 0 (task main) waits at 6:11 for the promise 0.1 (made at 2:11), which 0.3 owns\n"),
+     "  behind a deadlock: 0 (task main) waits at 6:11 for the promise 0.1 (p, made at 2:11), which 0.3 owns\n"),
     ("a source line below a failure, with a tab and a carriage return, and none below its echo", "",
      "task main() {\r\n\tlet t = fork f();\r\n\tjoin t;\r\n}\r\ntask f() {\r\n\tlet x = 1 / 0;\r\n}\r\n",
-     "failed: 0.1 (task f, forked at 2:10) at 6:2: arith\n"
+     "failed: 0.1 (task f, forked at 2:10) at 6:2: arith, division by zero\n"
      "\tlet x = 1 / 0;\r\n"
      "\t^\n"
      "  failed: 0 (task main) at 3:2: broken 0.1 (made at 2:10), at first from 0.1, which failed at 6:2\n"),
     ("one source line below failures that are alike", "", "task main() {\n  fork f();\n  fork f();\n}\n"
      "task f() { return 1 / 0; }\n",
-     "failed: 0.1 and 0.2 of task f at 5:12: arith\n"
+     "failed: 0.1 and 0.2 of task f at 5:12: arith, division by zero\n"
      "task f() { return 1 / 0; }\n"
      "           ^\n"),
     ("a source line below each failure", "--all", "task main() {\n  fork f();\n  fork f();\n}\n"
      "task f() { return 1 / 0; }\n",
-     "failed: 0.1 (task f, forked at 2:3) at 5:12: arith\n"
+     "failed: 0.1 (task f, forked at 2:3) at 5:12: arith, division by zero\n"
      "task f() { return 1 / 0; }\n"
      "           ^\n"
-     "failed: 0.2 (task f, forked at 3:3) at 5:12: arith\n"
+     "failed: 0.2 (task f, forked at 3:3) at 5:12: arith, division by zero\n"
      "task f() { return 1 / 0; }\n"
      "           ^\n"),
     ("the flags with each other", "--all --short --strict", ANCESTOR,
@@ -180,36 +182,64 @@ TOLD = (
     ("a cycle and a wait behind it, as objects", "--json", DEADLOCK,
      '{"kind":"deadlock","level":0,"waits":['
      '{"task":{"name":"0.3","task":"a","forked":"4:3","stopped":"waits","at":"9:10"},'
-     '"cell":{"name":"0.2","sort":"promise","made":"3:11"},"owner":"0.4"},'
+     '"cell":{"name":"0.2","sort":"promise","made":"3:11","variable":"q"},"owner":"0.4"},'
      '{"task":{"name":"0.4","task":"a","forked":"5:3","stopped":"waits","at":"9:10"},'
-     '"cell":{"name":"0.1","sort":"promise","made":"2:11"},"owner":"0.3"}]}\n'
+     '"cell":{"name":"0.1","sort":"promise","made":"2:11","variable":"p"},"owner":"0.3"}]}\n'
      '{"kind":"behind","level":1,"wait":'
      '{"task":{"name":"0","task":"main","forked":null,"stopped":"waits","at":"6:11"},'
-     '"cell":{"name":"0.1","sort":"promise","made":"2:11"},"owner":"0.3"}}\n'),
+     '"cell":{"name":"0.1","sort":"promise","made":"2:11","variable":"p"},"owner":"0.3"}}\n'),
     ("failures, an echo and a promise that is owed, as objects", "--all --json --short",
      "task main() {\n  let t = fork bad();\n  join t;\n}\ntask bad() { let p = new; let x = 1 / 0; }\n",
      '{"kind":"failed","level":0,"task":{"name":"0.1","task":"bad","forked":"2:11","stopped":"failed","at":"5:27"},'
-     '"cause":"arith","cell":null}\n'
-     '{"kind":"owed","level":1,"cell":{"name":"0.1.1","sort":"promise","made":"5:22"},'
+     '"cause":"arith","reason":"division by zero","cell":null}\n'
+     '{"kind":"owed","level":1,"cell":{"name":"0.1.1","sort":"promise","made":"5:22","variable":"p"},'
      '"task":{"name":"0.1","task":"bad","forked":"2:11","stopped":"failed","at":"5:27"}}\n'
      '{"kind":"echo","level":1,"task":{"name":"0","task":"main","forked":null,"stopped":"failed","at":"3:3"},'
-     '"cell":{"name":"0.1","sort":"task","made":"2:11"},'
+     '"cell":{"name":"0.1","sort":"task","made":"2:11","variable":null},'
      '"origin":{"name":"0.1","task":"bad","forked":"2:11","stopped":"failed","at":"5:27"}}\n'),
     ("a promise set twice by one task", "--short", "task main() {\n  let p = new;\n  set p = 1;\n  set p = 2;\n}\n",
-     "failed: 0 (task main) at 4:3: owner 0.1 (made at 2:11), set at 3:3\n"),
+     "failed: 0 (task main) at 4:3: owner 0.1 (p, made at 2:11), set at 3:3\n"),
     ("a promise that another task set", "--short", "task main() {\n  let p = new;\n  fork f(own p);\n  fork g(p);\n}\n"
      "task f(p) {\n  set p = 1;\n}\ntask g(p) { let x = get p; set p = 2; }\n",
-     "failed: 0.3 (task g(0.1), forked at 4:3) at 9:28: owner 0.1 (made at 2:11), which 0.2 set at 7:3\n"),
+     "failed: 0.3 (task g(0.1), forked at 4:3) at 9:28: owner 0.1 (p, made at 2:11), which 0.2 set at 7:3\n"),
     ("a promise that another task owned where it stopped", "--short", "task main() {\n  let p = new;\n  fork g(p);\n}\n"
      "task g(p) { set p = 2; }\n",
-     "failed: 0.2 (task g(0.1), forked at 3:3) at 5:13: owner 0.1 (made at 2:11), which 0 owned where it stopped\n"
-     "owed: the promise 0.1 (made at 2:11) was never set: 0 (task main) owned it and ended at 4:1\n"),
+     "failed: 0.2 (task g(0.1), forked at 3:3) at 5:13: owner 0.1 (p, made at 2:11), which 0 owned where it stopped\n"
+     "owed: the promise 0.1 (p, made at 2:11) was never set: 0 (task main) owned it and ended at 4:1\n"),
     ("arguments of forty bytes, and longer ones, of which the beginning is told", "--short",
      "task main() {\n  fork f(1000000000000, 2000000000000, 3000000000);\n"
      "  fork f(1000000000000, 2000000000000, -300000000000);\n}\n"
      "task f(a, b, c) { if c < 0 { let x = 1 / 0; } else { let y = 2 / 0; } }\n",
-     "failed: 0.1 (task f(1000000000000, 2000000000000, 3000000000), forked at 2:3) at 5:54: arith\n"
-     "failed: 0.2 (task f(1000000000000, 2000000000000, -3000000..), forked at 3:3) at 5:30: arith\n"),
+     "failed: 0.1 (task f(1000000000000, 2000000000000, 3000000000), forked at 2:3) at 5:54: arith, division by zero\n"
+     "failed: 0.2 (task f(1000000000000, 2000000000000, -3000000..), forked at 3:3) at 5:30: arith, division by zero\n"),
+    ("a sum past 64 bits", "--short", "task main() { let x = 9223372036854775807; x = x + 1; }",
+     "failed: 0 (task main) at 1:44: arith, overflow\n"),
+    ("a rest whose quotient is past 64 bits", "--short",
+     "task main() { let x = -9223372036854775807 - 1; print x % -1; }",
+     "failed: 0 (task main) at 1:49: arith, overflow\n"),
+    ("a rest by zero, behind a comparison that is false", "--short",
+     "task main() { let x = 3; print x % (x < 3); }",
+     "failed: 0 (task main) at 1:26: arith, division by zero\n"),
+    ("a number is set", "--short", "task main() { let p = 5; set p = 1; }",
+     "failed: 0 (task main) at 1:26: kind, 5 where a promise is wanted\n"),
+    ("a task is set, behind a value that is there", "--short", "task main() { let p = me; set p = 1; }",
+     "failed: 0 (task main) at 1:27: kind, the task 0 where a promise is wanted\n"),
+    ("a promise is joined", "--short", "task main() {\n  let p = new;\n  join p;\n}",
+     "failed: 0 (task main) at 3:3: kind, the promise 0.1 where a task is wanted\n"
+     "  owed: the promise 0.1 (p, made at 2:11) was never set: 0 (task main) owned it and failed at 3:3\n"),
+    ("a task is handed on, behind a promise", "--short",
+     "task main() {\n  let p = new;\n  let t = fork f(0, 0);\n  fork f(own p, own t);\n}\ntask f(a, b) { }\n",
+     "failed: 0 (task main) at 4:3: kind, the task 0.2 where a promise is wanted\n"
+     "  owed: the promise 0.1 (p, made at 2:11) was never set: 0 (task main) owned it and failed at 4:3\n"),
+    ("reasons that differ in failures that are alike", "--short",
+     "task main() {\n  fork f(1);\n  fork f(2);\n}\ntask f(p) { get p; }\n",
+     "failed: 0.1 and 0.2 of task f at 5:13: kind\n"),
+    ("the same, each told by itself", "--short --all",
+     "task main() {\n  fork f(1);\n  fork f(2);\n}\ntask f(p) { get p; }\n",
+     "failed: 0.1 (task f(1), forked at 2:3) at 5:13: kind, 1 where a promise is wanted\n"
+     "failed: 0.2 (task f(2), forked at 3:3) at 5:13: kind, 2 where a promise is wanted\n"),
+    ("a promise that no `let` made", "--short", "task main() { let p = 0; p = new; }",
+     "owed: the promise 0.1 (made at 1:30) was never set: 0 (task main) owned it and ended at 1:35\n"),
 )
 
 BRANCHES = ("task main() { let n = 0; while n < 2 { if n { print 1; } else { print 2; print 3; } n = n + 1; } "

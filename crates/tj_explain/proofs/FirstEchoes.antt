@@ -33,7 +33,7 @@ unfolding most_doublings
 near_first N d few more = omega arith
 
 -- what is first echoes nothing
-echoes_none : (l : TraceLine) → IsFirst l → echoed_by l.line.ending ≡ None
+pub echoes_none : (l : TraceLine) → IsFirst l → echoed_by l.line.ending ≡ None
 echoes_none l (by_failure c e other) = ap echoed_by e ∙ other
 echoes_none l (by_debt v q e i) = ap echoed_by e
 

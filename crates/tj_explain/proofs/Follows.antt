@@ -34,17 +34,18 @@ use Rattle.tj_trace.specs.declared.line.TraceLine.{TraceLine}
 use Rattle.tj_explain.proofs.BelowCauses.{AreBelow, AreFollowed, IsKnown, all_below, followed_in, known_first}
 use Rattle.tj_explain.proofs.Claims.{Claims, kept, one_claims, result, waits_owe_none}
 use Rattle.tj_explain.proofs.CycleOwners.{members_told}
-use Rattle.tj_explain.proofs.FirstEchoes.{HasChain, has_chain}
+use Rattle.tj_explain.proofs.ChainEnds.{origin_begins}
+use Rattle.tj_explain.proofs.FirstEchoes.{HasChain, echoes_none, has_chain}
 use Rattle.tj_explain.proofs.LedOn.{IsLed, led_on}
-use Rattle.tj_explain.proofs.Origins.{Broke, IsFirst, by_debt, by_failure, came_from, stopped_so}
+use Rattle.tj_explain.proofs.Origins.{Broke, IsFirst, by_debt, by_failure, came_from, origin_there, stopped_so}
 use Rattle.tj_explain.proofs.Roots.{IsCauseOf, a_cycle, a_debt, a_failure, bare_roots, cause_of, cycle_is_cause}
 use Rattle.tj_explain.proofs.Roots.{debt_is_cause, failure_is_cause, roots_are_causes}
 use Rattle.tj_explain.proofs.ToldOnce.{link_found, link_says, to_point}
-use Rattle.tj_explain.specs.Consequences.{CameAtFirstFrom, FailsAfter, FollowsFrom, IsInOrder}
-use Rattle.tj_explain.specs.Echoes.{breaker, echoed, echoed_by}
+use Rattle.tj_explain.specs.Consequences.{CameAtFirstFrom, FailsAfter, FollowsFrom, IsInOrder, IsOriginOf}
+use Rattle.tj_explain.specs.Echoes.{breaker, echoed, echoed_by, origin}
 use Rattle.tj_explain.specs.Explanations.{OwedIt, members_of}
 use Rattle.tj_explain.specs.Findings.{behind, behind_with, echo, echo_with, is_member, is_owing, link_wait, owed, stop_of}
-use Rattle.tj_explain.specs.Findings.{told_cycle, told_debt, told_echo, told_failure, told_wait}
+use Rattle.tj_explain.specs.Findings.{told_cycle, told_debt, told_echo, told_failure, told_task, told_wait}
 use Rattle.tj_explain.specs.Forests.{Forest, Tree, after_chain, after_cycle, after_failure, bare, begun_at, begun_by}
 use Rattle.tj_explain.specs.Forests.{begun_with, cause_from, causes, consequences, first_echo, follow, forest_of, led_to}
 use Rattle.tj_explain.specs.Forests.{names_of_cause}
@@ -181,7 +182,7 @@ module _ (strict : Bool) (root : PlacedState) (N : ℕ) (places : List PlacesOfT
   -- what a task that failed is told to owe, and its echo
   data FailedPart (l : TraceLine) (f : Finding) : Type 0 where
     owes : (q : Name) → f ≡ told_debt lines l q → (c : Cause) → l.line.ending ≡ ending.Failed c → FailedPart l f
-    echoes : (q : Name) → f ≡ told_echo lines l q → FailedPart l f
+    echoes : (q : Name) → f ≡ told_echo lines l q → l.line.ending ≡ ending.Failed (cause.Broken q) → FailedPart l f
 
   debt_of : (l : TraceLine) → IsIn l lines → (f : Finding) → IsIn f (owed lines false l)
       → (q : Name) × (f ≡ told_debt lines l q) × ((c : Cause) × (l.line.ending ≡ ending.Failed c))
@@ -193,21 +194,33 @@ module _ (strict : Bool) (root : PlacedState) (N : ℕ) (places : List PlacesOfT
     by (ending.Waits q) is i = absurd (subst (λ qs. IsIn f (map (told_debt lines l) qs))
         (waits_owe_none strict root N lines traced l there q is) i)
 
-  echo_part : (l : TraceLine) (e : Ending) (f : Finding) → IsIn f (echo_with lines l e) → FailedPart l f
-  echo_part l (ending.Done v) f i = absurd i
-  echo_part l (ending.Failed cause.Arith) f i = absurd i
-  echo_part l (ending.Failed cause.Kind) f i = absurd i
-  echo_part l (ending.Failed cause.Steps) f i = absurd i
-  echo_part l (ending.Failed (cause.Owner q)) f i = absurd i
-  echo_part l (ending.Failed (cause.Broken q)) f (inl e) = echoes q e
-  echo_part l (ending.Failed (cause.Broken q)) f (inr i) = absurd i
-  echo_part l (ending.Failed (cause.Order q)) f i = absurd i
-  echo_part l (ending.Waits q) f i = absurd i
+  echo_part : (l : TraceLine) (e : Ending) → l.line.ending ≡ e → (f : Finding) → IsIn f (echo_with lines l e)
+      → FailedPart l f
+  echo_part l (ending.Done v) is f i = absurd i
+  echo_part l (ending.Failed cause.Arith) is f i = absurd i
+  echo_part l (ending.Failed cause.Kind) is f i = absurd i
+  echo_part l (ending.Failed cause.Steps) is f i = absurd i
+  echo_part l (ending.Failed (cause.Owner q)) is f i = absurd i
+  echo_part l (ending.Failed (cause.Broken q)) is f (inl e) = echoes q e is
+  echo_part l (ending.Failed (cause.Broken q)) is f (inr i) = absurd i
+  echo_part l (ending.Failed (cause.Order q)) is f i = absurd i
+  echo_part l (ending.Waits q) is f i = absurd i
 
-  -- each part follows from that after which the task failed
-  part_follows : (l : TraceLine) (f h : Finding) → FailedPart l f → FailsAfter ps h l.line.name → FollowsFrom ps h f
-  part_follows l f h (owes q e c is) after = subst (FollowsFrom ps h) (sym e) (ap stop_of is, after)
-  part_follows l f h (echoes q e) after = subst (FollowsFrom ps h) (sym e) after
+  -- where an echo of the task tells this task as its origin
+  abbrev TellsOrigin : TraceLine → TraceLine → Type 0
+  TellsOrigin l b = (q : Name) → l.line.ending ≡ ending.Failed (cause.Broken q) → origin lines q ≡ Some b
+
+  -- what a task owed follows from that after which it failed
+  debt_follows : (l : TraceLine) (f h : Finding) (q : Name) → f ≡ told_debt lines l q → (c : Cause)
+      → l.line.ending ≡ ending.Failed c → FailsAfter ps h l.line.name → FollowsFrom ps h f
+  debt_follows l f h q e c is after = subst (FollowsFrom ps h) (sym e) (ap stop_of is, after)
+
+  -- so does each part, below the task that an echo tells as its origin
+  part_follows : (l b : TraceLine) (f h : Finding) → FailedPart l f → TellsOrigin l b
+      → FailsAfter ps h l.line.name → IsOriginOf h (Some (told_task lines b)) → FollowsFrom ps h f
+  part_follows l b f h (owes q e c is) tells after began = debt_follows l f h q e c is after
+  part_follows l b f h (echoes q e is) tells after began = subst (FollowsFrom ps h) (sym e)
+      (after, subst (IsOriginOf h) (sym (ap (option_map (told_task lines)) (tells q is))) began)
 
   -- a task fails after itself
   after_itself : (l : TraceLine) (c : Cause) (h : Finding) → h ≡ told_failure lines l c → FailsAfter ps h l.line.name
@@ -231,14 +244,14 @@ module _ (strict : Bool) (root : PlacedState) (N : ℕ) (places : List PlacesOfT
               → IsKnown (FollowsFrom ps) cs (Some l.line.name, f)
           of_part f (q, e, (c, failed)) =
               below_failure l there c failed (ap echoed_by (sym failed) ∙ none (echoed_by l.line.ending) is) f
-              (λ h told. part_follows l f h (owes q e c failed) (after_itself l c h told))
+              (λ h told. debt_follows l f h q e c failed (after_itself l c h told))
 
   -- ---- echoes
 
   -- an echo, and what its task owed, stand below that by which the chain began
-  known_in_chain : (l : TraceLine) → (f : Finding) → FailedPart l f → HasChain strict root N lines traced o out l
-      → IsKnown (FollowsFrom ps) cs (begun_by lines l, f)
-  known_in_chain l f p h =
+  known_in_chain : (l : TraceLine) → IsIn l lines → (f : Finding) → FailedPart l f
+      → HasChain strict root N lines traced o out l → IsKnown (FollowsFrom ps) cs (begun_by lines l, f)
+  known_in_chain l there f p h =
       subst (λ z. IsKnown (FollowsFrom ps) cs (z, f)) (sym begun) (by h.begins.is_first h.begins.broke) where
         m : TraceLine
         m = first_echo lines l
@@ -253,6 +266,14 @@ module _ (strict : Bool) (root : PlacedState) (N : ℕ) (places : List PlacesOfT
         begun =
             ap (λ e. option_and_then (begun_at lines) (echoed_by e)) h.chained.is
             ∙ ap (option_map (λ (z : TraceLine). begun_with cell z z.line.ending)) h.begins.found
+
+        -- the origin that the echo tells is the task that broke the first cell
+        tells : TellsOrigin l b
+        tells q is =
+            let r = origin_there strict root N lines traced o out l.line.name small l there refl q is in
+            r.found ∙ ap (λ z. Some z) (sym (origin_begins lines l b r.line q is
+            (ap (λ e. option_and_then (breaker lines) (echoed_by e)) h.chained.is ∙ h.begins.found)
+            (echoes_none b h.begins.is_first) r.found (echoes_none r.line r.is_first)))
 
         came : CameAtFirstFrom ps l.line.name b.line.name
         came = (
@@ -287,13 +308,15 @@ module _ (strict : Bool) (root : PlacedState) (N : ℕ) (places : List PlacesOfT
             → IsKnown (FollowsFrom ps) cs (Some (begun_with cell b b.line.ending), f)
         by (by_failure c is none) broken =
             subst (λ e. IsKnown (FollowsFrom ps) cs (Some (begun_with cell b e), f)) (sym is)
-            (below_failure b h.begins.there c is none f (λ r e. part_follows l f r p
-            (subst (λ g. FailsAfter ps g l.line.name) (sym e) came)))
+            (below_failure b h.begins.there c is none f (λ r e. part_follows l b f r p tells
+            (subst (λ g. FailsAfter ps g l.line.name) (sym e) came)
+            (subst (λ g. IsOriginOf g (Some (told_task lines b))) (sym e) refl)))
         by (by_debt v q is i) broken =
             let j = owing v is broken in
             subst (λ e. IsKnown (FollowsFrom ps) cs (Some (begun_with cell b e), f)) (sym is)
-            (below_debt b h.begins.there v is cell j f (λ r e. part_follows l f r p
-            (subst (λ g. FailsAfter ps g l.line.name) (sym e) (at_debt v is j))))
+            (below_debt b h.begins.there v is cell j f (λ r e. part_follows l b f r p tells
+            (subst (λ g. FailsAfter ps g l.line.name) (sym e) (at_debt v is j))
+            (subst (λ g. IsOriginOf g (Some (told_task lines b))) (sym e) refl)))
 
   -- for which cell a task failed that echoes
   fails : (e : Ending) (q : Name) → echoed_by e ≡ Some q → e ≡ ending.Failed (cause.Broken q)
@@ -312,7 +335,7 @@ module _ (strict : Bool) (root : PlacedState) (N : ℕ) (places : List PlacesOfT
       → FailedPart l f
   chain_part l there f i = which (in_either f (echo lines l) (owed lines false l) i) where
     which : IsIn f (echo lines l) ⊎ IsIn f (owed lines false l) → FailedPart l f
-    which (inl j) = echo_part l l.line.ending f j
+    which (inl j) = echo_part l l.line.ending refl f j
     which (inr j) = let q = debt_of l there f j in owes q.0 q.1 q.2.0 q.2.1
 
   known_after_chain : (l : TraceLine) → IsIn l lines → (k : Option Name × Finding) → IsIn k (after_chain lines l)
@@ -324,7 +347,7 @@ module _ (strict : Bool) (root : PlacedState) (N : ℕ) (places : List PlacesOfT
     by None is i = absurd i
     by (Some q) is i =
         let f = follow_in (begun_by lines l) (echo lines l ++ owed lines false l) k i in
-        subst (IsKnown (FollowsFrom ps) cs) (sym f.2) (known_in_chain l f.0 (chain_part l there f.0 f.1)
+        subst (IsKnown (FollowsFrom ps) cs) (sym f.2) (known_in_chain l there f.0 (chain_part l there f.0 f.1)
         (has_chain strict root N lines traced o out small l there q (fails l.line.ending q is)))
 
   -- ---- waits
@@ -408,7 +431,7 @@ module _ (strict : Bool) (root : PlacedState) (N : ℕ) (places : List PlacesOfT
       let h = all_below (FollowsFrom ps) cs (consequences lines o.cycles) start known_all
       (record { roots = bare_roots cs; followed = bare_followed cs; no_strays = refl }) in
       record {
-        causes = roots_are_causes ps places lines o.cycles;
+        causes = roots_are_causes places lines o.cycles;
         follow = λ t i g j. followed_in (FollowsFrom ps) (forest_of places lines o.cycles).trees h.followed t i g j;
         no_strays = h.no_strays;
       }

@@ -76,6 +76,14 @@ one_line_more lines f i to l js more at led is old =
         ap (slice_get lines) (at_last js to n n end)
         ∙ led ∙ ap (λ z. Some (onward f 0 z)) (same_line n m there (omega arith))
 
+-- the same where the step was looked up, and else leads to the line itself
+pub line_more : (lines : List TraceLine) (f : TraceLine → Option TraceLine) (i number to : ℕ) (l : TraceLine)
+    (r : Option ℕ) (js more : List ℕ) → slice_get lines i ≡ Some l → number ≡ length js → IsNumberOf lines r (f l)
+    → to ≡ unwrap_or r number → more ≡ js ++ to ∷ [] → AreSingleSteps lines f i js → AreSingleSteps lines f (i + 1) more
+line_more lines f i number to l r js more at count found is grown old =
+    one_line_more lines f i to l js more at
+    (ap (slice_get lines) (is ∙ ap (unwrap_or r) (count ∙ old.each)) ∙ one_step lines f i l r at found) grown old
+
 -- all lines
 pub all_single : (lines : List TraceLine) (f : TraceLine → Option TraceLine) (i : ℕ) (js : List ℕ)
     → AreSingleSteps lines f i js → i ≡ length lines → AreJumps lines f 0 js

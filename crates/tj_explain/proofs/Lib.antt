@@ -46,3 +46,7 @@ pub mod PutBelow
 pub mod PutsAfter
 mod PutGrouped
 mod ToldOutcomes
+mod ReasonsAgree
+mod ReasonsBegun
+mod TableRows
+mod ChainEnds

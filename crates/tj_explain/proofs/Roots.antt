@@ -8,7 +8,6 @@ use Rattle.tj_base.specs.declared.cause.Cause.{Cause}
 use Rattle.tj_base.specs.declared.cause.Cause.TheVariants as cause
 use Rattle.tj_base.specs.declared.value.Shown.{Shown}
 use Rattle.tj_body.specs.Points.{IsIn}
-use Rattle.tj_body.specs.declared.point.Point.{Point}
 use Rattle.tj_body.proofs.Lists.{from_flat_map, in_either, in_flat_map, in_left, in_map, in_right, to_map}
 use Rattle.tj_mean.specs.declared.outcome.Ending.{Ending}
 use Rattle.tj_mean.specs.declared.outcome.Ending.TheVariants as ending
@@ -143,18 +142,18 @@ module _ (lines : List TraceLine) (cycles : List (List Link)) where
         (subst (λ e. IsIn (told_debt lines l q) (cond (is_owing true e) (map (told_debt lines l) l.line.owes) []))
         (sym is) (to_map (told_debt lines l) q l.line.owes i))))
 
-module _ {B : Type 0} (ps : List (Point B)) (places : List PlacesOfTask) (lines : List TraceLine)
-    (cycles : List (List Link)) where
-  cause_is : (f : Finding) → IsCauseOf lines cycles f → IsCause ps f
-  cause_is f (a_cycle c i e) = subst (IsCause ps) (sym e) tt
-  cause_is f (a_failure l i c is none e) = subst (IsCause ps) (sym e) (λ q s. other_cause c q none s)
-  cause_is f (a_debt l i v is q j e) = subst (IsCause ps) (sym e) (ap stop_of is)
+-- what a cause is of is one
+cause_is : (lines : List TraceLine) (cycles : List (List Link)) (f : Finding) → IsCauseOf lines cycles f → IsCause f
+cause_is lines cycles f (a_cycle c i e) = subst IsCause (sym e) tt
+cause_is lines cycles f (a_failure l i c is none e) = subst IsCause (sym e) (λ q s. other_cause c q none s)
+cause_is lines cycles f (a_debt l i v is q j e) = subst IsCause (sym e) (ap stop_of is)
 
-  -- each root of the forest is a cause
-  pub roots_are_causes : (t : Tree) → IsIn t (forest_of places lines cycles).trees → IsCause ps t.root
-  roots_are_causes t i =
-      let cs = causes places lines cycles in
-      let start : Forest = record { trees = map bare cs; strays = [] } in
-      cause_is t.root (cause_of lines cycles places t.root
-      (subst (IsIn t.root) (all_roots cs (consequences lines cycles) start ∙ bare_roots cs)
-      (root_in t (forest_of places lines cycles).trees i)))
+-- each root of the forest is a cause
+pub roots_are_causes : (places : List PlacesOfTask) (lines : List TraceLine) (cycles : List (List Link)) (t : Tree)
+    → IsIn t (forest_of places lines cycles).trees → IsCause t.root
+roots_are_causes places lines cycles t i =
+    let cs = causes places lines cycles in
+    let start : Forest = record { trees = map bare cs; strays = [] } in
+    cause_is lines cycles t.root (cause_of lines cycles places t.root
+    (subst (IsIn t.root) (all_roots cs (consequences lines cycles) start ∙ bare_roots cs)
+    (root_in t (forest_of places lines cycles).trees i)))

@@ -1,7 +1,7 @@
 -- One step of what goes on for so many steps, or for all elements of a list.
 use Rattle.std.proofs.Common.{◌≡◌, ◌<◌, ◌-◌, ◌+◌, ◌∙◌, ℕ, zero, suc, List, [], ◌∷◌, ◌++◌}
-use Rattle.std.proofs.Common.{length, take, get_or, ap, sym, arith}
-use Rattle.std.proofs.lemmas.List.{flat_map_more, take_more}
+use Rattle.std.proofs.Common.{length, map, take, get_or, ap, sym, arith}
+use Rattle.std.proofs.lemmas.List.{flat_map_more, map-append, take_more}
 use Rattle.std.specs.List.{flat_map}
 use Rattle.tj_explain.specs.Carets.{behind_lines, next_line}
 
@@ -20,3 +20,15 @@ text_more f xs n x old new part added within so_far is told same grown =
     ∙ flat_map_more f [] (take n xs) x
     ∙ ap (λ z. flat_map f (take n xs ++ z ∷ [])) is
     ∙ ap (flat_map f) (sym (take_more xs n x within))
+
+-- what is made of one element more, where something of each is seen
+pub seen_more : {A B C : Type 0} (seen : B → C) (f : A → C) (xs : List A) (n : ℕ) (x : A) (y : B) (old new : List B)
+    → n < length xs → map seen old ≡ map f (take n xs) → x ≡ get_or xs n x → new ≡ old ++ y ∷ [] → seen y ≡ f x
+    → map seen new ≡ map f (take (n + 1) xs)
+seen_more seen f xs n x y old new within so_far is grown made =
+    ap (map seen) grown
+    ∙ map-append seen old (y ∷ [])
+    ∙ ap (λ z. z ++ seen y ∷ []) so_far
+    ∙ ap (λ z. map f (take n xs) ++ z ∷ []) (made ∙ ap f is)
+    ∙ sym (map-append f (take n xs) (get_or xs n x ∷ []))
+    ∙ ap (map f) (sym (take_more xs n x within))

@@ -26,7 +26,7 @@ use Rattle.tj_ports.specs.declared.source.ReadEnd.{ReadEnd}
 use Rattle.tj_ports.specs.declared.source.ReadEnd.TheVariants as end
 use Rattle.tj_syntax.specs.Faults.{IsScript, kinds_of}
 use Rattle.tj_syntax.specs.PlacesOf.{PlacesOfTask}
-use Rattle.tj_syntax.specs.Trees.{Task}
+use Rattle.tj_syntax.specs.Trees.{Statement, Task}
 use Rattle.tj_trace.specs.Logs.{logged_program}
 use Rattle.tj_trace.specs.TraceLaws.{script_program}
 use Rattle.tj_trace.specs.Traces.{AreTraced}
@@ -34,6 +34,7 @@ use Rattle.tj_trace.specs.declared.line.TraceLine.{TraceLine}
 use Rattle.tj_explain.specs.Tellings as tellings
 use Rattle.tj_explain.specs.Tellings.{why_text}
 use Rattle.tj_explain.specs.declared.telling.Telling.{Telling}
+use Rattle.tj_explain.specs.Scenes.{Told, statements_of}
 use Rattle.tj_explain.specs.WhyOutput.{ArePlaces, AreTokensOf, IsCommandOutput, IsToldRun, ended, needs_more, scene_of}
 use Rattle.tj_explain.specs.WhyOutput.{tells_lines, was_fine}
 use Rattle.tj_explain.specs.declared.line.WhyCommand.{WhyCommand}
@@ -119,17 +120,22 @@ module _ (command : WhyCommand) (input : List ℕ) (script : List Task) (tokens 
   abbrev strict : Bool
   strict = command.limits.strict
 
+  -- what the command looks things up in, with these statements
+  abbrev pub scene_by : List (List Statement) → List PlacesOfTask → Told
+  scene_by table places = record (scene_of command input script places) { statements = table }
+
   -- a run that has ended
-  pub ended_told : (outcome : Outcome) (lines : List TraceLine) (places : List PlacesOfTask) (status : Status)
-      (text : List ℕ) → ¬ IsFull (script_program strict root) cells
+  pub ended_told : (outcome : Outcome) (lines : List TraceLine) (table : List (List Statement))
+      (places : List PlacesOfTask) (status : Status) (text : List ℕ) → ¬ IsFull (script_program strict root) cells
       → IsOutcome (meaning (script_program strict root) cells) outcome
-      → AreTraced (logged_program strict root) cells lines → ArePlaces tokens places
+      → AreTraced (logged_program strict root) cells lines → table ≡ statements_of script → ArePlaces tokens places
       → status ≡ status_of (is_marked outcome)
-      → text ≡ why_text (scene_of command input script places) lines outcome command.telling
+      → text ≡ why_text (scene_by table places) lines outcome command.telling
       → IsToldRun command input script tokens root status text
-  ended_told outcome lines places status text fits is traced placed s t =
+  ended_told outcome lines table places status text fits is traced listed placed s t =
+      let told = t ∙ ap (λ z. why_text (scene_by z places) lines outcome command.telling) listed in
       subst (λ z. IsToldRun command input script tokens root z text) (sym s)
-      (subst (λ z. IsToldRun command input script tokens root (status_of (is_marked outcome)) z) (sym t)
+      (subst (λ z. IsToldRun command input script tokens root (status_of (is_marked outcome)) z) (sym told)
       (ended outcome lines places fits is traced placed))
 
   -- a run in which nothing went wrong

@@ -1,5 +1,5 @@
 -- The laws of the forest: it holds each finding of the list once, and each consequence stands below its cause.
-use Rattle.std.specs.Prelude.{◌≡◌, ◌≤◌, ◌++◌, ℕ, Bool, List, []}
+use Rattle.std.specs.Prelude.{◌≡◌, ◌≤◌, ◌++◌, ℕ, Bool, List, [], Option, Some}
 use Rattle.std.specs.List.{flat_map}
 use Rattle.std.specs.List.Sorted.{IsPermutation}
 use Rattle.tj_base.specs.Cycles.{Reaches}
@@ -30,6 +30,7 @@ use Rattle.tj_explain.specs.Origins.{CameFrom}
 use Rattle.tj_explain.specs.declared.finding.Finding.{Finding}
 use Rattle.tj_explain.specs.declared.finding.Finding.TheVariants as finding
 use Rattle.tj_explain.specs.declared.finding.Stop.TheVariants as stop
+use Rattle.tj_explain.specs.declared.finding.ToldTask.{ToldTask}
 use Rattle.tj_explain.specs.declared.finding.Wait.{Wait}
 
 -- the forest holds the findings of the list, each as often as that does, in an order of its own
@@ -46,15 +47,23 @@ abbrev pub GroupsHoldEachFinding : Type 0
 GroupsHoldEachFinding = (all : Bool) (ts : List Tree)
     → IsPermutation (flat_map findings_of_tree ts) (flat_map findings_of_group (groups all ts))
 
-module _ {B : Type 0} (ps : List (Point B)) where
-  -- a cause: a cycle, a failure for no broken cell, or a promise owed by a task that ended
-  abbrev pub IsCause : Finding → Type 0
-  IsCause (finding.Cycle waits) = Unit {0}
-  IsCause (finding.Behind w) = ⊥
-  IsCause (finding.Failed t c m) = (q : Name) → c ≡ cause.Broken q → ⊥
-  IsCause (finding.Owed q t) = t.stop ≡ stop.Ended
-  IsCause (finding.Echo t q o) = ⊥
+-- a cause: a cycle, a failure for no broken cell, or a promise owed by a task that ended
+abbrev pub IsCause : Finding → Type 0
+IsCause (finding.Cycle waits) = Unit {0}
+IsCause (finding.Behind w) = ⊥
+IsCause (finding.Failed t c m) = (q : Name) → c ≡ cause.Broken q → ⊥
+IsCause (finding.Owed q t) = t.stop ≡ stop.Ended
+IsCause (finding.Echo t q o) = ⊥
 
+-- what an echo tells as its origin is the task of the cause: the one that failed, or that owed the promise
+abbrev pub IsOriginOf : Finding → Option ToldTask → Type 0
+IsOriginOf (finding.Cycle waits) o = ⊥
+IsOriginOf (finding.Behind w) o = ⊥
+IsOriginOf (finding.Failed t c m) o = o ≡ Some t
+IsOriginOf (finding.Owed q t) o = o ≡ Some t
+IsOriginOf (finding.Echo t q p) o = ⊥
+
+module _ {B : Type 0} (ps : List (Point B)) where
   -- steps back from the failure of a task lead to this task
   abbrev pub CameAtFirstFrom : Name → Name → Type 0
   CameAtFirstFrom x y = (k : ℕ) × Reaches (CameFrom ps) x k y
@@ -70,14 +79,14 @@ module _ {B : Type 0} (ps : List (Point B)) where
   FailsAfter (finding.Echo t q o) x = ⊥
 
   -- the consequence follows from the cause: a wait leads to a member of the cycle, and a failure, or a promise that a
-  -- failed task owed, comes from the task of the cause
+  -- failed task owed, comes from the task of the cause, which an echo tells as its origin
   abbrev pub FollowsFrom : Finding → Finding → Type 0
   FollowsFrom root (finding.Cycle waits) = ⊥
   FollowsFrom root (finding.Behind w) = (waits : List Wait) × (root ≡ finding.Cycle waits)
       × ((y : Name) × (k : ℕ) × Reaches (WaitsFor ps) w.task.name k y × IsIn y (members_of waits))
   FollowsFrom root (finding.Failed t c m) = ⊥
   FollowsFrom root (finding.Owed q t) = (t.stop ≡ stop.Failed) × FailsAfter root t.name
-  FollowsFrom root (finding.Echo t q o) = FailsAfter root t.name
+  FollowsFrom root (finding.Echo t q o) = FailsAfter root t.name × IsOriginOf root o
 
   -- each tree has a cause as root, and below it what follows from this; and there are no strays
   pub record IsInOrder (f : Forest) : Type 0 where

@@ -39,8 +39,8 @@ is_owing ended (ending.Failed c) = not ended
 is_owing ended (ending.Waits q) = not ended
 
 module _ (lines : List TraceLine) where
-  -- the task with this line: its fork, where and how it stopped, its arguments, and where the promise went for which it
-  -- failed
+  -- the task with this line: its fork, where and how it stopped, its arguments, where the promise went for which it
+  -- failed, and what its variables held as it failed
   abbrev pub told_task : TraceLine → ToldTask
   told_task l = record {
     name = l.line.name;
@@ -50,6 +50,7 @@ module _ (lines : List TraceLine) where
     at = l.at;
     began = l.began;
     went = went_at lines l l.line.ending;
+    held = l.held;
   }
 
   -- the cell with this name, with the statement that made it

@@ -5,3 +5,4 @@ pub mod Numbers
 pub mod Jumps
 pub mod Ranks
 pub mod GroupViews
+pub mod Ways

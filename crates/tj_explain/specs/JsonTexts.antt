@@ -22,6 +22,8 @@ use Rattle.tj_trace.specs.declared.line.Maker.{Maker}
 use Rattle.tj_trace.specs.declared.line.TraceLine.{TraceLine}
 use Rattle.tj_explain.specs.FaultWords.{fault_words}
 use Rattle.tj_explain.specs.Forests.{Forest, Tree, forest_of}
+use Rattle.tj_explain.specs.LetNames.{let_name}
+use Rattle.tj_explain.specs.ReasonTexts.{reason_for, reason_words}
 use Rattle.tj_explain.specs.Scenes.{Told, found_text, name_of, spot_text, stop_text}
 use Rattle.tj_explain.specs.WhyTexts.{cause_word, is_promise, stopped_word}
 use Rattle.tj_explain.specs.declared.finding.Finding.{Finding}
@@ -29,6 +31,7 @@ use Rattle.tj_explain.specs.declared.finding.Finding.TheVariants as finding
 use Rattle.tj_explain.specs.declared.finding.ToldCell.{ToldCell}
 use Rattle.tj_explain.specs.declared.finding.ToldTask.{ToldTask}
 use Rattle.tj_explain.specs.declared.finding.Wait.{Wait}
+use Rattle.tj_explain.specs.declared.reason.Reason.{Reason}
 
 -- a text in quotes, where it has no quote and no backslash
 abbrev pub quoted : List ℕ → List ℕ
@@ -52,10 +55,24 @@ name_json (Some x) = quoted (name_text x)
 abbrev pub sort_json : Option Maker → List ℕ
 sort_json m = cond (is_promise m) (codes "promise") (codes "task")
 
+-- the name of a variable, if there is one
+abbrev pub variable_json : Option (List ℕ) → List ℕ
+variable_json None = codes "null"
+variable_json (Some x) = quoted x
+
+-- the variable of the `let` at this statement, if it is one that makes a promise
+abbrev pub let_json : Told → Option Maker → List ℕ
+let_json s None = codes "null"
+let_json s (Some m) = variable_json (let_name s m)
+
+-- where a cell was made, and for which variable
+abbrev pub made_json : Told → Option Maker → List ℕ
+made_json s m = spot_json s m ++ codes ",\"variable\":" ++ let_json s m
+
 -- a cell with the statement that made it
 abbrev pub cell_json : Told → Name → Option Maker → List ℕ
 cell_json s x m = codes "{\"name\":" ++ quoted (name_text x) ++ codes ",\"sort\":" ++ quoted (sort_json m)
-    ++ codes ",\"made\":" ++ spot_json s m ++ codes "}"
+    ++ codes ",\"made\":" ++ made_json s m ++ codes "}"
 
 -- how and where a task stopped
 abbrev pub stop_json : Told → ToldTask → List ℕ
@@ -119,14 +136,27 @@ cycle_json s n waits =
 abbrev pub behind_json : Told → ℕ → Wait → List ℕ
 behind_json s n w = begin_at n (codes "behind") ++ codes ",\"wait\":" ++ wait_json s w ++ codes "}\n"
 
--- a cause, and the cell that it names
-abbrev pub cause_json : Told → Cause → Option Maker → List ℕ
-cause_json s c m = quoted (cause_word c) ++ codes ",\"cell\":" ++ named_json s c m
+-- why a task failed, if there is a reason
+abbrev pub reason_json : ToldTask → Option Reason → List ℕ
+reason_json t None = codes "null"
+reason_json t (Some r) = quoted (reason_words t r)
+
+-- why a task failed for this cause, and the cell that this names
+abbrev pub about_json : Told → ToldTask → Cause → Option Maker → List ℕ
+about_json s t c m = reason_json t (reason_for s t c) ++ codes ",\"cell\":" ++ named_json s c m
+
+-- a cause, with the reason and the cell that it names
+abbrev pub cause_json : Told → ToldTask → Cause → Option Maker → List ℕ
+cause_json s t c m = quoted (cause_word c) ++ codes ",\"reason\":" ++ about_json s t c m
+
+-- what is told of a failure that is no echo, behind its level
+abbrev pub failed_parts : Told → ToldTask → Cause → Option Maker → List ℕ
+failed_parts s t c m =
+    codes ",\"task\":" ++ task_json s t ++ codes ",\"cause\":" ++ cause_json s t c m ++ codes "}\n"
 
 -- a failure that is no echo
 abbrev pub failed_json : Told → ℕ → ToldTask → Cause → Option Maker → List ℕ
-failed_json s n t c m = begin_at n (codes "failed") ++ codes ",\"task\":" ++ task_json s t
-    ++ codes ",\"cause\":" ++ cause_json s c m ++ codes "}\n"
+failed_json s n t c m = begin_at n (codes "failed") ++ failed_parts s t c m
 
 -- what is told of a promise that was owed, behind its level
 abbrev pub owed_parts : Told → ToldCell → ToldTask → List ℕ

@@ -27,3 +27,7 @@ pub mod Onward
 pub mod Forests
 pub mod Groups
 pub mod Consequences
+pub mod LetNames
+pub mod Reasons
+pub mod ReasonTexts
+pub mod ReasonLaws

@@ -1,29 +1,41 @@
 -- What a text of a run looks things up in, and how it names a task, a promise and a position.
-use Rattle.std.specs.Prelude.{ℕ, Bool, List, [], ◌++◌, codes, decimal, slice_get, Option, Some, None}
+use Rattle.std.specs.Prelude.{ℕ, Bool, List, [], ◌++◌, codes, decimal, map, slice_get, Option, Some, None}
 use Rattle.std.specs.Option.{option_or}
 use Rattle.tj_base.specs.Texts.{name_text}
 use Rattle.tj_lex.specs.declared.place.Place.{Place}
 use Rattle.tj_syntax.specs.PlacesOf as places
 use Rattle.tj_syntax.specs.PlacesOf.{PlacesOfTask}
-use Rattle.tj_syntax.specs.Trees.{Task}
+use Rattle.tj_syntax.specs.Trees.{Statement, Task}
 use Rattle.tj_syntax.specs.View as trees
+use Rattle.tj_syntax.specs.Within.{within}
+use Rattle.tj_syntax.specs.declared.stmt.Stmt.{Stmt}
 use Rattle.tj_trace.specs.Lookups.{ask_spot_of, spot_of}
 use Rattle.tj_trace.specs.declared.line.Maker.{Maker}
 use Rattle.tj_explain.specs.Arguments.{arguments_text}
 use Rattle.tj_explain.specs.declared.finding.ToldTask.{ToldTask}
 use Rattle.tj_explain.specs.declared.scene.Scene.{Scene}
 
--- a script, where its parts stand, and its text; and whether no lines of this are told
+-- a script, its statements, where its parts stand, and its text; and whether no lines of this are told
 pub record Told : Type 0 where
   pub script : List Task
+  pub statements : List (List Statement)
   pub places : List PlacesOfTask
   pub text : List ℕ
   pub short : Bool
+
+-- the statements of each declaration, by their numbers
+abbrev pub statements_of : List Task → List (List Statement)
+statements_of script = map (λ d. within d.body) script
+
+-- a table of statements, as the code holds it
+abbrev pub view_table : List (List Stmt) → List (List Statement)
+view_table table = map (λ d. map trees.statement d) table
 
 -- the same of what the code holds
 abbrev pub view : Scene → Told
 view s = record {
   script = trees.script s.script.now;
+  statements = view_table (map (λ d. map (λ q. q.now) d.items) s.statements.now);
   places = places.view s.places.now;
   text = s.text.now;
   short = s.short;
@@ -61,6 +73,15 @@ forked_text s (Some m) = codes ", forked at " ++ spot_text s m.decl m.at
 abbrev pub label : Told → ToldTask → List ℕ
 label s t = name_text t.name ++ codes " (task " ++ name_of (slice_get s.script t.decl)
     ++ arguments_text (slice_get s.script t.decl) t.began ++ forked_text s t.fork ++ codes ")"
+
+-- the statement with this number, if there are such ones
+abbrev pub statement_in : Option (List Statement) → ℕ → Option Statement
+statement_in None n = None
+statement_in (Some list) n = slice_get list n
+
+-- the statement with this number in the declaration with that one
+abbrev pub statement_at : Told → ℕ → ℕ → Option Statement
+statement_at s decl at = statement_in (slice_get s.statements decl) at
 
 -- where a task stopped
 abbrev pub stop_text : Told → ToldTask → List ℕ

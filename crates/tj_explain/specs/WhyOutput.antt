@@ -25,7 +25,7 @@ use Rattle.tj_trace.specs.TraceLaws.{script_program}
 use Rattle.tj_trace.specs.Traces.{AreTraced}
 use Rattle.tj_trace.specs.declared.line.TraceLine.{TraceLine}
 use Rattle.tj_explain.specs.WhyLine.{HasNoForm, IsCommand}
-use Rattle.tj_explain.specs.Scenes.{Told}
+use Rattle.tj_explain.specs.Scenes.{Told, statements_of}
 use Rattle.tj_explain.specs.Tellings.{fault_told, fine_told, full_told, why_text}
 use Rattle.tj_explain.specs.declared.telling.Telling.{Telling}
 use Rattle.tj_explain.specs.declared.telling.Telling.TheVariants as telling
@@ -50,7 +50,13 @@ tells_lines telling.Json marked = marked
 -- what a command tells of an input looks these things up
 abbrev pub scene_of : WhyCommand → List ℕ → List Task → List PlacesOfTask → Told
 scene_of command input script places =
-    record { script = script; places = places; text = input; short = command.short }
+    record {
+      script = script;
+      statements = statements_of script;
+      places = places;
+      text = input;
+      short = command.short;
+    }
 
 -- What is told of the run of a command's script with this root: that it needs more cells than the limit, or what the
 -- text tells of its outcome, of its trace, and of the places of the script's parts.

@@ -20,6 +20,8 @@ use Rattle.tj_explain.specs.Carets.{caret_at}
 use Rattle.tj_explain.specs.Forests.{Forest, forest_of}
 use Rattle.tj_explain.specs.Groups.{Group, cell_named, cell_told, cells_told, groups, leaf_groups, maker_told}
 use Rattle.tj_explain.specs.Groups.{origin_told, same_maker, same_name, same_stand, tasks_told, waits_at}
+use Rattle.tj_explain.specs.LetNames.{let_name, let_text}
+use Rattle.tj_explain.specs.ReasonTexts.{reason_text}
 use Rattle.tj_explain.specs.Scenes.{Told, label, name_of, spot_text, stop_text, task_at, told_spot}
 use Rattle.tj_explain.specs.declared.finding.Finding.{Finding}
 use Rattle.tj_explain.specs.declared.finding.Finding.TheVariants as finding
@@ -40,10 +42,11 @@ abbrev pub owner_text : Option Name → List ℕ
 owner_text None = []
 owner_text (Some x) = codes ", which " ++ name_text x ++ codes " owns"
 
--- where a promise was made
+-- for which variable and where a promise was made
 abbrev pub made_text : Told → Option Maker → List ℕ
 made_text s None = []
-made_text s (Some m) = codes " (made at " ++ spot_text s m.decl m.at ++ codes ")"
+made_text s (Some m) =
+    codes " (" ++ let_text (let_name s m) ++ codes "made at " ++ spot_text s m.decl m.at ++ codes ")"
 
 -- a promise with the statement that made it
 abbrev pub promise_text : Told → ToldCell → List ℕ
@@ -246,14 +249,22 @@ all_made s m fs =
 abbrev pub all_went : Told → ToldTask → List ToldTask → List ℕ
 all_went s t ts = where_agreed (list_all (λ u. same_went t.went u.went) ts) (went_text s t.decl t.went)
 
+-- why the tasks failed that failed for this cause, if the same is told of each
+abbrev pub all_reasons : Told → ToldTask → Cause → List ToldTask → List ℕ
+all_reasons s t c ts = where_agreed (list_all (λ u. same (reason_text s t c) (reason_text s u c)) ts) (reason_text s t c)
+
 -- where the cells were made that the causes name, and where they went
 abbrev pub about_text : Told → ToldTask → Option Maker → List Finding → List ℕ
 about_text s t m fs = all_made s m fs ++ all_went s t (tasks_told fs)
 
+-- the cause of failures, and why they came about
+abbrev pub why_failed : Told → ToldTask → Cause → List Finding → List ℕ
+why_failed s t c fs = cause_of c fs ++ all_reasons s t c (tasks_told fs)
+
 -- a line for failures that are no echoes, and the source line
 abbrev pub failed_line : Told → ToldTask → Cause → Option Maker → List Finding → List ℕ
 failed_line s t c m fs =
-    failed_text s t fs ++ cause_of c fs ++ about_text s t m fs ++ line_feed ++ source_line s t
+    failed_text s t fs ++ why_failed s t c fs ++ about_text s t m fs ++ line_feed ++ source_line s t
 
 -- what the task did from whose end a failure came: it failed, or it ended and owed promises
 abbrev pub end_word : Stop → List ℕ

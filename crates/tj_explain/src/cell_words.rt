@@ -5,6 +5,7 @@ ghost use Rattle.tj_explain.specs.WhyTexts as spec;
 
 use crate::finding::ToldCell;
 use crate::labels::spot_text;
+use crate::let_names::let_text;
 use crate::scene::Scene;
 use crate::texts::{joined, named};
 use std::alloc::Global;
@@ -23,15 +24,25 @@ pub fn owner_text(alloc: Global, owner: &Option<Name>) -> Result<Vec<u8>, Oom>
     Ok(text)
 }
 
-/// Where a promise was made.
+/// For which variable and where a promise was made.
 pub fn made_text(scene: &Scene, maker: Option<Maker>) -> Result<Vec<u8>, Oom>
     ensures { IfOk result (λ text. text.items ≡ spec.made_text (view scene.now) maker) }
 {
     let Some(maker) = maker else {
         return Ok(Vec::new(scene.alloc));
     };
+    let variable = let_text(scene, maker)?;
     let spot = spot_text(scene, maker.decl, maker.at)?;
-    joined(scene.alloc, &[b" (made at ", spot.as_slice(), b")"])
+    joined(
+        scene.alloc,
+        &[
+            b" (",
+            variable.as_slice(),
+            b"made at ",
+            spot.as_slice(),
+            b")",
+        ],
+    )
 }
 
 /// A promise with the statement that made it.

@@ -1,10 +1,11 @@
-//! To which cycle waits lead, and by what a chain of echoes began.
+//! Steps from line to line: to which cycle waits lead, and by what a chain of echoes began.
 ghost use Rattle.std.specs.Prelude.{◌≡◌, IfOk, option_and_then, slice_get};
 ghost use Rattle.std.specs.Option.{option_map};
 ghost use Rattle.tj_explain.specs.Echoes.{echoed_by, most_doublings};
 ghost use Rattle.tj_explain.specs.Forests as spec;
 ghost use Rattle.tj_explain.specs.Inner.Jumps.{AreJumps};
 ghost use Rattle.tj_explain.specs.Inner.Numbers.{IsNumberOf, IsSearchable};
+ghost use Rattle.tj_explain.specs.Inner.Ways as ways;
 
 use crate::echoes::{back, echoed_by};
 use crate::jumps::{doubled_often, line_at};
@@ -14,6 +15,17 @@ use std::alloc::Global;
 use tj_base::{Name, Oom};
 use tj_mean::Ending;
 use tj_trace::TraceLine;
+
+/// Which steps lead from line to line.
+#[derive(Clone, Copy)]
+pub enum Way {
+    /// From a task that waits to the owner of what it waits for.
+    Ahead,
+    /// From an echo to the one from which it came, if that is an echo, too.
+    ToEchoes,
+    /// From an echo to the task from whose end it came.
+    Back,
+}
 
 /// The cell for which a task waits that stopped so.
 fn awaited(ending: &Ending) -> Option<&Name>
@@ -34,29 +46,6 @@ fn ahead(lookups: &Lookups, line: &TraceLine) -> Option<usize>
     owner_number(lookups, awaited(&line.line.ending)?)
 }
 
-/// The jumps of one step to an owner.
-fn steps_ahead(alloc: Global, lookups: &Lookups) -> Result<Vec<usize>, Oom>
-    requires lookups { IsSearchable lookups.now }
-    ensures { IfOk result (λ jumps.
-        AreJumps lookups.now.lines.now (spec.ahead lookups.now.lines.now) 0 jumps.items) }
-{
-    let mut jumps = Vec::new(alloc);
-    for (number, line) in lookups.lines.iter().enumerate() {
-        jumps.push(ahead(lookups, line).unwrap_or(number))?;
-    }
-    Ok(jumps)
-}
-
-/// The jumps of as many steps to owners as there can be tasks, and more.
-pub fn jumps_ahead(alloc: Global, lookups: &Lookups) -> Result<Vec<usize>, Oom>
-    requires lookups { IsSearchable lookups.now }
-    ensures { IfOk result (λ jumps. AreJumps lookups.now.lines.now
-        (spec.ahead lookups.now.lines.now) most_doublings jumps.items) }
-{
-    let single = steps_ahead(alloc, lookups)?;
-    doubled_often(alloc, single)
-}
-
 /// The number, if the line with it is of an echo.
 fn echo_only(lookups: &Lookups, number: Option<usize>) -> Option<usize>
     ensures { spec.IsEchoOnly lookups.now.lines.now number result }
@@ -75,26 +64,40 @@ fn echo_before(lookups: &Lookups, line: &TraceLine) -> Option<usize>
     echo_only(lookups, back(lookups, line))
 }
 
-/// The jumps of one step back to an echo.
-fn steps_to_echoes(alloc: Global, lookups: &Lookups) -> Result<Vec<usize>, Oom>
+/// The number of the line to which a step of this way leads from another.
+fn next(lookups: &Lookups, way: Way, line: &TraceLine) -> Option<usize>
+    requires lookups { IsSearchable lookups.now }
+    ensures { IsNumberOf lookups.now.lines.now result
+        (ways.next way lookups.now.lines.now line.now) }
+{
+    match way {
+        Way::Ahead => ahead(lookups, line),
+        Way::ToEchoes => echo_before(lookups, line),
+        Way::Back => back(lookups, line),
+    }
+}
+
+/// The jumps of one step.
+fn single_steps(alloc: Global, lookups: &Lookups, way: Way) -> Result<Vec<usize>, Oom>
     requires lookups { IsSearchable lookups.now }
     ensures { IfOk result (λ jumps.
-        AreJumps lookups.now.lines.now (spec.echo_before lookups.now.lines.now) 0 jumps.items) }
+        AreJumps lookups.now.lines.now (ways.next way lookups.now.lines.now) 0 jumps.items) }
 {
     let mut jumps = Vec::new(alloc);
-    for (number, line) in lookups.lines.iter().enumerate() {
-        jumps.push(echo_before(lookups, line).unwrap_or(number))?;
+    for line in lookups.lines {
+        let number = jumps.len();
+        jumps.push(next(lookups, way, line).unwrap_or(number))?;
     }
     Ok(jumps)
 }
 
-/// The jumps of as many steps back to echoes as there can be rounds.
-pub fn jumps_to_echoes(alloc: Global, lookups: &Lookups) -> Result<Vec<usize>, Oom>
+/// The jumps of as many steps as there can be tasks or rounds, and more.
+pub fn jumps_of(alloc: Global, lookups: &Lookups, way: Way) -> Result<Vec<usize>, Oom>
     requires lookups { IsSearchable lookups.now }
     ensures { IfOk result (λ jumps. AreJumps lookups.now.lines.now
-        (spec.echo_before lookups.now.lines.now) most_doublings jumps.items) }
+        (ways.next way lookups.now.lines.now) most_doublings jumps.items) }
 {
-    let single = steps_to_echoes(alloc, lookups)?;
+    let single = single_steps(alloc, lookups, way)?;
     doubled_often(alloc, single)
 }
 

@@ -12,8 +12,8 @@ ghost use Rattle.tj_explain.specs.Scenes.{view};
 ghost use Rattle.tj_explain.specs.declared.finding.Finding as told;
 
 use crate::causes::{causes_of, numbers_of};
-use crate::chains::{begun_by, jumps_ahead, jumps_to_echoes, led_to};
-use crate::echoes::{echoed_by, jumps_of};
+use crate::chains::{Way, begun_by, jumps_of, led_to};
+use crate::echoes::echoed_by;
 use crate::finding::Finding;
 use crate::findings::{is_owing, told_debt, told_echo};
 use crate::forest::Forest;
@@ -197,9 +197,9 @@ fn guide_of<'t>(
     ensures guide { IfOk result IsGuide }
 {
     let members = members_of(alloc, cycles)?;
-    let ahead = jumps_ahead(alloc, &lookups)?;
-    let to_echoes = jumps_to_echoes(alloc, &lookups)?;
-    let back = jumps_of(alloc, &lookups)?;
+    let ahead = jumps_of(alloc, &lookups, Way::Ahead)?;
+    let to_echoes = jumps_of(alloc, &lookups, Way::ToEchoes)?;
+    let back = jumps_of(alloc, &lookups, Way::Back)?;
     Ok(Guide {
         lookups,
         members,

@@ -36,6 +36,21 @@ pub fn first_names(alloc: Global, names: &[&Name]) -> Result<Vec<u8>, Oom>
     }
 }
 
+/// The same of the names of tasks.
+fn tasks_names(alloc: Global, tasks: &[&ToldTask]) -> Result<Vec<u8>, Oom>
+    ensures { IfOk result (λ text. text.items ≡ spec.first_names (map (λ task. task.name)
+        (map (λ task. task.now) tasks.now))) }
+{
+    match tasks {
+        [] => Ok(Vec::new(alloc)),
+        [first] => named(alloc, b"", &first.name),
+        [first, second] => two_names(alloc, &first.name, b" and ", &second.name),
+        [first, second, _, more @ ..] => {
+            many_names(alloc, &first.name, &second.name, more.len() + 1)
+        }
+    }
+}
+
 /// The first two names, and how many more there are.
 fn many_names(alloc: Global, first: &Name, second: &Name, more: usize) -> Result<Vec<u8>, Oom>
     ensures { IfOk result (λ text. text.items ≡ spec.many_names first.now second.now more) }
@@ -53,19 +68,6 @@ fn two_names(alloc: Global, first: &Name, between: &[u8], second: &Name) -> Resu
     let first = named(alloc, b"", first)?;
     let second = named(alloc, between, second)?;
     joined(alloc, &[first.as_slice(), second.as_slice()])
-}
-
-/// The names of tasks.
-fn names_of<'t>(alloc: Global, tasks: &[&'t ToldTask]) -> Result<Vec<&'t Name>, Oom>
-    ensures { IfOk result (λ names. map (λ name. name.now) names.items
-        ≡ map (λ task. task.name) (map (λ task. task.now) tasks.now)) }
-{
-    let mut names = Vec::new(alloc);
-    for task in tasks {
-        let task = *task;
-        names.push(&task.name)?;
-    }
-    Ok(names)
 }
 
 /// Where a task was forked, behind its declaration.
@@ -92,8 +94,7 @@ fn crowd(scene: &Scene, first: &ToldTask, tasks: &[&ToldTask]) -> Result<Vec<u8>
     ensures { IfOk result (λ text. text.items
         ≡ spec.crowd (view scene.now) first.now (map (λ task. task.now) tasks.now)) }
 {
-    let names = names_of(scene.alloc, tasks)?;
-    let names = first_names(scene.alloc, names.as_slice())?;
+    let names = tasks_names(scene.alloc, tasks)?;
     let fork = if one_fork(first, tasks) {
         fork_text(scene, first.fork)?
     } else {

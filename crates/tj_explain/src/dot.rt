@@ -9,7 +9,8 @@ ghost use Rattle.tj_explain.specs.Echoes.{back, most_doublings};
 ghost use Rattle.tj_explain.specs.Inner.Jumps.{AreJumps};
 ghost use Rattle.tj_explain.specs.Inner.Numbers.{IsSearchable, HasMembers};
 
-use crate::echoes::{echoed_by, jumps_of, origin};
+use crate::chains::{Way, jumps_of};
+use crate::echoes::{echoed_by, origin};
 use crate::failure_lines::cause_text;
 use crate::labels::{name_of, spot_text};
 use crate::lookups::{Lookups, Members};
@@ -380,7 +381,7 @@ pub fn dot_text(scene: &Scene, lookups: &Lookups, members: &Members) -> Result<V
         text.items ≡ spec.dot_text (view scene.now) lookups.now.lines.now
         members.now.cycles.now) }
 {
-    let jumps = jumps_of(scene.alloc, lookups)?;
+    let jumps = jumps_of(scene.alloc, lookups, Way::Back)?;
     let tasks = drawings(scene, lookups, members, jumps.as_slice())?;
     let more = undrawn_node(scene.alloc, undrawn(lookups.lines))?;
     let head = b"digraph tasks {\n  node [shape=box];\n";

@@ -1,15 +1,14 @@
 //! Failures that only echo another: from which task's end they came.
-ghost use Rattle.std.specs.Prelude.{◌≡◌, IfOk};
+ghost use Rattle.std.specs.Prelude.{◌≡◌};
 ghost use Rattle.std.specs.Option.{option_map};
 ghost use Rattle.tj_explain.specs.Echoes as spec;
 ghost use Rattle.tj_explain.specs.Inner.Jumps.{AreJumps};
 ghost use Rattle.tj_explain.specs.Inner.Numbers.{IsNumberOf, IsSearchable};
 
-use crate::jumps::{doubled_often, line_from};
+use crate::jumps::line_from;
 use crate::lookups::Lookups;
 use crate::searches::breaker;
-use std::alloc::Global;
-use tj_base::{Cause, Name, Oom};
+use tj_base::{Cause, Name};
 use tj_mean::Ending;
 use tj_trace::TraceLine;
 
@@ -40,29 +39,6 @@ pub fn back(lookups: &Lookups, line: &TraceLine) -> Option<usize>
         (spec.back lookups.now.lines.now line.now) }
 {
     breaker(lookups, echoed_by(&line.line.ending)?)
-}
-
-/// The jumps of one step back.
-fn steps_back(alloc: Global, lookups: &Lookups) -> Result<Vec<usize>, Oom>
-    requires lookups { IsSearchable lookups.now }
-    ensures { IfOk result (λ jumps.
-        AreJumps lookups.now.lines.now (spec.back lookups.now.lines.now) 0 jumps.items) }
-{
-    let mut jumps = Vec::new(alloc);
-    for (number, line) in lookups.lines.iter().enumerate() {
-        jumps.push(back(lookups, line).unwrap_or(number))?;
-    }
-    Ok(jumps)
-}
-
-/// The jumps of as many steps back as there can be rounds.
-pub fn jumps_of(alloc: Global, lookups: &Lookups) -> Result<Vec<usize>, Oom>
-    requires lookups { IsSearchable lookups.now }
-    ensures { IfOk result (λ jumps. AreJumps lookups.now.lines.now
-        (spec.back lookups.now.lines.now) spec.most_doublings jumps.items) }
-{
-    let single = steps_back(alloc, lookups)?;
-    doubled_often(alloc, single)
 }
 
 /// The line of the task from whose end the cell's being broken came at first.

@@ -14,6 +14,7 @@ use crate::cycle_lines::source_line;
 use crate::debt_lines::tasks_told;
 use crate::finding::{Finding, ToldTask};
 use crate::labels::stop_text;
+use crate::reason_lines::all_reasons;
 use crate::scene::Scene;
 use crate::texts::{joined, named};
 use crate::went_lines::all_went;
@@ -91,6 +92,22 @@ fn cause_of(alloc: Global, cause: &Cause, findings: &[&Finding]) -> Result<Vec<u
     }
 }
 
+/// The cause of failures, and why they came about.
+fn why_failed(
+    scene: &Scene,
+    first: &ToldTask,
+    cause: &Cause,
+    findings: &[&Finding],
+) -> Result<Vec<u8>, Oom>
+    ensures { IfOk result (λ text. text.items ≡ spec.why_failed (view scene.now) first.now cause.now
+        (map (λ f. f.now) findings.now)) }
+{
+    let tasks = tasks_told(scene.alloc, findings)?;
+    let word = cause_of(scene.alloc, cause, findings)?;
+    let reasons = all_reasons(scene, first, cause, tasks.as_slice())?;
+    joined(scene.alloc, &[word.as_slice(), reasons.as_slice()])
+}
+
 /// Whether this statement made the cells of the findings.
 fn of_maker(maker: Option<Maker>, findings: &[&Finding]) -> bool
     ensures { result ≡ list_all (λ f. groups.same_maker maker (groups.maker_told f))
@@ -141,7 +158,7 @@ pub fn failed_line(
         cause.now about (map (λ f. f.now) findings.now)) }
 {
     let tasks = failed_text(scene, task, findings)?;
-    let why = cause_of(scene.alloc, cause, findings)?;
+    let why = why_failed(scene, task, cause, findings)?;
     let about = about_text(scene, task, about, findings)?;
     let source = source_line(scene, task)?;
     joined(

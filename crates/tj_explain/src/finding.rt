@@ -28,6 +28,8 @@ pub struct ToldTask {
     pub began: ValueList,
     /// Where the promise went for which it failed.
     pub went: Went,
+    /// What its variables held where it failed by `arith` or `kind`. Of any other task nothing.
+    pub held: ValueList,
 }
 
 /// Where a promise went that a task had no right to set or to hand on.

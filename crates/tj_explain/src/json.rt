@@ -2,11 +2,13 @@
 ghost use Rattle.std.specs.Prelude.{◌≡◌, IfOk};
 ghost use Rattle.std.specs.List.{flat_map};
 ghost use Rattle.tj_explain.specs.JsonTexts as spec;
+ghost use Rattle.tj_explain.specs.ReasonTexts as reasons;
 ghost use Rattle.tj_explain.specs.Scenes.{view};
 
 use crate::failure_lines::cause_word;
 use crate::finding::{Finding, ToldCell, ToldTask, Wait};
 use crate::json_parts::{cell_json, quoted, task_if_json, task_json, wait_json, waits_json};
+use crate::reason_lines::{reason_for, reason_words};
 use crate::scene::Scene;
 use crate::texts::joined;
 use std::alloc::Global;
@@ -70,16 +72,77 @@ fn named_json(scene: &Scene, cause: &Cause, maker: Option<Maker>) -> Result<Vec<
     }
 }
 
-/// A cause, and the cell that it names.
-fn cause_json(scene: &Scene, cause: &Cause, about: Option<Maker>) -> Result<Vec<u8>, Oom>
-    ensures { IfOk result (λ json.
-        json.items ≡ spec.cause_json (view scene.now) cause.now about) }
+/// Why a task failed for this cause, if there is a reason.
+fn reason_json(scene: &Scene, task: &ToldTask, cause: &Cause) -> Result<Vec<u8>, Oom>
+    ensures { IfOk result (λ json. json.items ≡ spec.reason_json task.now
+        (reasons.reason_for (view scene.now) task.now cause.now)) }
 {
-    let word = quoted(scene.alloc, cause_word(cause))?;
+    match reason_for(scene, task, cause) {
+        Some(reason) => {
+            let words = reason_words(scene.alloc, task, reason)?;
+            quoted(scene.alloc, words.as_slice())
+        }
+        None => Ok(Vec::from_slice(scene.alloc, b"null")?),
+    }
+}
+
+/// Why a task failed for this cause, and the cell that this names.
+fn about_json(
+    scene: &Scene,
+    task: &ToldTask,
+    cause: &Cause,
+    about: Option<Maker>,
+) -> Result<Vec<u8>, Oom>
+    ensures { IfOk result (λ json.
+        json.items ≡ spec.about_json (view scene.now) task.now cause.now about) }
+{
+    let reason = reason_json(scene, task, cause)?;
     let cell = named_json(scene, cause, about)?;
     joined(
         scene.alloc,
-        &[word.as_slice(), b",\"cell\":", cell.as_slice()],
+        &[reason.as_slice(), b",\"cell\":", cell.as_slice()],
+    )
+}
+
+/// A cause, with the reason and the cell that it names.
+fn cause_json(
+    scene: &Scene,
+    task: &ToldTask,
+    cause: &Cause,
+    about: Option<Maker>,
+) -> Result<Vec<u8>, Oom>
+    ensures { IfOk result (λ json.
+        json.items ≡ spec.cause_json (view scene.now) task.now cause.now about) }
+{
+    let word = quoted(scene.alloc, cause_word(cause))?;
+    let about = about_json(scene, task, cause, about)?;
+    joined(
+        scene.alloc,
+        &[word.as_slice(), b",\"reason\":", about.as_slice()],
+    )
+}
+
+/// What is told of a failure that is no echo, behind its level.
+fn failed_parts(
+    scene: &Scene,
+    task: &ToldTask,
+    cause: &Cause,
+    about: Option<Maker>,
+) -> Result<Vec<u8>, Oom>
+    ensures { IfOk result (λ json.
+        json.items ≡ spec.failed_parts (view scene.now) task.now cause.now about) }
+{
+    let cause = cause_json(scene, task, cause, about)?;
+    let task = task_json(scene, task)?;
+    joined(
+        scene.alloc,
+        &[
+            b",\"task\":",
+            task.as_slice(),
+            b",\"cause\":",
+            cause.as_slice(),
+            b"}\n",
+        ],
     )
 }
 
@@ -95,19 +158,8 @@ fn failed_json(
         ≡ spec.failed_json (view scene.now) level task.now cause.now about) }
 {
     let begin = begin_at(scene.alloc, level, b"failed")?;
-    let task = task_json(scene, task)?;
-    let cause = cause_json(scene, cause, about)?;
-    joined(
-        scene.alloc,
-        &[
-            begin.as_slice(),
-            b",\"task\":",
-            task.as_slice(),
-            b",\"cause\":",
-            cause.as_slice(),
-            b"}\n",
-        ],
-    )
+    let parts = failed_parts(scene, task, cause, about)?;
+    joined(scene.alloc, &[begin.as_slice(), parts.as_slice()])
 }
 
 /// What is told of a promise that was owed, behind its level.

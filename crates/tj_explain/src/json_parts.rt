@@ -8,6 +8,7 @@ ghost use Rattle.tj_explain.specs.Scenes.{view};
 use crate::cell_words::is_promise;
 use crate::finding::{ToldCell, ToldTask, Wait};
 use crate::labels::{name_of, spot_text, stop_text};
+use crate::let_names::let_name;
 use crate::scene::Scene;
 use crate::texts::{by_stop, joined, named};
 use std::alloc::Global;
@@ -62,6 +63,31 @@ fn sort_json(maker: Option<Maker>) -> &'static [u8]
     }
 }
 
+/// The variable of the `let` at this statement, if it is one that makes a promise.
+fn let_json(scene: &Scene, maker: Option<Maker>) -> Result<Vec<u8>, Oom>
+    ensures { IfOk result (λ json. json.items ≡ spec.let_json (view scene.now) maker) }
+{
+    let Some(maker) = maker else {
+        return Ok(Vec::from_slice(scene.alloc, b"null")?);
+    };
+    match let_name(scene, maker) {
+        Some(name) => quoted(scene.alloc, name),
+        None => Ok(Vec::from_slice(scene.alloc, b"null")?),
+    }
+}
+
+/// Where a cell was made, and for which variable.
+fn made_json(scene: &Scene, maker: Option<Maker>) -> Result<Vec<u8>, Oom>
+    ensures { IfOk result (λ json. json.items ≡ spec.made_json (view scene.now) maker) }
+{
+    let spot = spot_json(scene, maker)?;
+    let variable = let_json(scene, maker)?;
+    joined(
+        scene.alloc,
+        &[spot.as_slice(), b",\"variable\":", variable.as_slice()],
+    )
+}
+
 /// A cell with the statement that made it.
 pub fn cell_json(scene: &Scene, name: &Name, maker: Option<Maker>) -> Result<Vec<u8>, Oom>
     ensures { IfOk result (λ json.
@@ -69,7 +95,7 @@ pub fn cell_json(scene: &Scene, name: &Name, maker: Option<Maker>) -> Result<Vec
 {
     let name = quoted_name(scene.alloc, name)?;
     let sort = quoted(scene.alloc, sort_json(maker))?;
-    let made = spot_json(scene, maker)?;
+    let made = made_json(scene, maker)?;
     joined(
         scene.alloc,
         &[

@@ -10,6 +10,7 @@ ghost use Rattle.tj_explain.specs.Explanations.{CycleOwnersAreNext, FindingsTell
 ghost use Rattle.tj_explain.specs.Explanations.{NothingIsFoundWhereFine, WaitsLeadToToldCycles};
 ghost use Rattle.tj_explain.specs.Origins.{EchoesHaveOrigins, EchoesNameEarlierCells};
 ghost use Rattle.tj_explain.specs.Positions.{TasksAreToldRight};
+ghost use Rattle.tj_explain.specs.ReasonLaws.{ReasonsAreRight};
 ghost use Rattle.tj_explain.specs.TasksTold.{TasksAreOfHistories};
 ghost use Rattle.tj_explain.specs.ToldFindings.{TextsTellFindings};
 ghost use Rattle.tj_explain.specs.WhyOutput.{IsOutput};
@@ -120,7 +121,8 @@ pub fn consequences_follow()
     // which it follows. Waits lead from a task that is told behind a cycle to a member of that cycle.
     // Below a failure stand promises that the task owed as it failed, and echoes, with what their tasks
     // owed, from which steps back lead to this task. Below a promise stand echoes, with what their tasks
-    // owed, from which steps back lead to a failure for this promise.
+    // owed, from which steps back lead to a failure for this promise. The origin that an echo tells is the
+    // task which its cause tells: the one that failed, or that owed the promise.
     ensures { (strict : Bool) (root : PlacedState) → ConsequencesFollow strict root }
 {
     waits_lead_to_a_cycle::<ScriptBody>();
@@ -140,3 +142,11 @@ pub fn texts_tell_findings()
     waits_lead_to_told_cycles();
     consequences_follow();
 }
+
+/// Why an expression came to nothing, and why a statement failed as it began, is told rightly.
+pub fn reasons_are_right()
+    // Law: of what the variables of a task held, an expression has a reason exactly where it has no
+    // value, and the reason tells of the fault for which it has none; and so does that of a
+    // statement that fails as it begins, if what it forks is declared with as many parameters.
+    ensures { ReasonsAreRight }
+{}

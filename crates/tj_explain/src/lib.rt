@@ -29,20 +29,26 @@ mod json_parts;
 mod jumps;
 mod labels;
 mod laws;
+mod let_names;
 mod line;
 mod line_word;
 mod lookups;
 mod members;
 mod owners;
+mod reason;
+mod reason_lines;
+mod reasons;
 mod replies;
 mod scene;
 mod searches;
+mod statements;
 mod telling;
 mod texts;
 mod told;
 mod told_parts;
 mod top_call;
 mod usage;
+mod values;
 mod wait_lines;
 mod wanted;
 mod went;
@@ -54,11 +60,13 @@ mod words;
 pub use laws::{
     cells_are_told_right, consequences_follow, cycle_owners_are_next, echoes_have_origins,
     echoes_name_earlier_cells, findings_tell_each_once, forests_hold_each_finding,
-    groups_hold_each_finding, nothing_is_found_where_fine, one_output, tasks_are_of_histories,
-    tasks_are_told_right, texts_tell_findings, waits_lead_to_told_cycles,
+    groups_hold_each_finding, nothing_is_found_where_fine, one_output, reasons_are_right,
+    tasks_are_of_histories, tasks_are_told_right, texts_tell_findings, waits_lead_to_told_cycles,
 };
 pub use line::{WhyCommand, command_of};
 pub use telling::Telling;
 pub use told::told_of_text;
 pub use top_call::why_words;
 pub use words::why_given;
+
+mod parsed;

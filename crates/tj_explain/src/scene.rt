@@ -1,13 +1,14 @@
 //! What a text of a run looks things up in, and where it is made.
 use std::alloc::Global;
-use tj_syntax::{Script, ScriptPlaces};
+use tj_syntax::{Script, ScriptPlaces, Stmt};
 
-/// A script, where its parts stand, and its text; whether no lines of this are told; and the allocator of
-/// what is told.
+/// A script, the statements of each declaration by their numbers, where its parts stand, and its text;
+/// whether no lines of this are told; and the allocator of what is told.
 #[derive(Clone, Copy)]
 pub struct Scene<'s> {
     pub alloc: Global,
     pub script: &'s Script,
+    pub statements: &'s [Vec<&'s Stmt>],
     pub places: &'s ScriptPlaces,
     pub text: &'s [u8],
     pub short: bool,

@@ -17,8 +17,10 @@ ghost use Rattle.tj_explain.specs.WhyOutput as outputs;
 ghost use Rattle.tj_explain.specs.WhyOutput.{IsCommandOutput, IsToldRun};
 
 use crate::line::WhyCommand;
+use crate::parsed::parsed;
 use crate::replies::{fault_told, fine_told, full_told};
 use crate::scene::Scene;
+use crate::statements::statements_of;
 use crate::telling::Telling;
 use crate::why::why_text;
 use std::alloc::Global;
@@ -28,7 +30,7 @@ use tj_eval::{PlacedBody, Sizes, main_body, placed_main};
 use tj_lex::{Token, tokens};
 use tj_mean::{Outcome, PlanFault, marked, plan};
 use tj_ports::ReadEnd;
-use tj_syntax::{NoScript, Script, parse, places, position_behind};
+use tj_syntax::{NoScript, Script, places, position_behind};
 use tj_trace::trace;
 
 /// What is told of an input, where this was read of it.
@@ -69,7 +71,7 @@ pub fn told_of_text(alloc: Global, command: WhyCommand, text: &[u8]) -> Result<O
         Ok(found) => found,
         Err(fault) => return told_fault(alloc, command.telling, text, &[], NoScript::Tokens(fault)),
     };
-    match parse(alloc, found.as_slice()) {
+    match parsed(alloc, text) {
         Ok(script) => told_script(alloc, command, text, found.as_slice(), &script),
         Err(fault) => told_fault(
             alloc,
@@ -206,9 +208,11 @@ fn told_traced(
         return Err(Oom);
     };
     let places = places(alloc, tokens)?;
+    let statements = statements_of(alloc, script)?;
     let scene = Scene {
         alloc,
         script,
+        statements: statements.as_slice(),
         places: &places,
         text,
         short: command.short,

@@ -38,6 +38,7 @@ pub fn told_task(alloc: Global, lookups: &Lookups, line: &TraceLine) -> Result<T
         at: line.at,
         began: copy_values(alloc, line.began.items())?,
         went: went_at(alloc, lookups, line)?,
+        held: copy_values(alloc, line.held.items())?,
     })
 }
 

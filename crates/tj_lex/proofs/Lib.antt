@@ -8,3 +8,4 @@ pub mod Behind
 pub mod Starts
 pub mod Determined
 pub mod Laying
+pub mod Shortened

@@ -4,3 +4,4 @@ pub mod Pieces
 pub mod Spelling
 pub mod Inner
 pub mod Tokens
+pub mod Shorts

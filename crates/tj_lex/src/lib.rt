@@ -19,3 +19,6 @@ pub use token::{Key, LexFault, Mark, Tok, Token};
 pub use word::Word;
 
 mod room;
+mod shorts;
+
+pub use shorts::{Kind, Seen, Short, short_tokens};

@@ -5,3 +5,4 @@ pub mod AtWork
 pub mod Outcomes
 pub mod NotedActs
 pub mod TakenPoints
+pub mod NameMaps

@@ -7,3 +7,4 @@ pub mod ToldOrder
 pub mod NotedActs
 pub mod Owners
 pub mod MetIndexes
+pub mod NameMaps

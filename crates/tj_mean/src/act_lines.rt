@@ -16,11 +16,11 @@ ghost use Rattle.tj_mean.specs.Outcomes.{Ascend};
 use crate::act::{ActLine, ActLines};
 use crate::act_steps::line_of;
 use crate::laws::acts_can_be_worked_off;
+use crate::name_map::NameMap;
 use crate::outcome::PlanFault;
 use crate::round::{Pending, push_children, root_task};
 use crate::rounds::at_rest;
 use std::alloc::Global;
-use std::collections::BTreeMap;
 use tj_base::{Items, Name, Oom, name_cmp};
 use tj_body::{Body, Entry};
 
@@ -59,7 +59,7 @@ pub fn acts<B: Body>(alloc: Global, root: &B, cells: u32) -> Result<ActLines, Pl
 fn lines_of<B: Body>(
     alloc: Global,
     root: &B,
-    given: &BTreeMap<Name, Entry>,
+    given: &NameMap<Entry>,
     n: u32,
 ) -> Result<Vec<ActLine>, Oom>
     requires root { IsFresh B.places B.awaits B.left 1 root.now }

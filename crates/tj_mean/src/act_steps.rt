@@ -14,8 +14,8 @@ ghost use Rattle.tj_mean.specs.Outcomes.{ending_of};
 use crate::act::{Act, ActLine, ActList};
 use crate::ask_steps::take;
 use crate::history_steps::{advance, start};
+use crate::name_map::NameMap;
 use std::alloc::Global;
-use std::collections::BTreeMap;
 use std::mem::replace;
 use tj_base::{Items, Name, Oom, Sort};
 use tj_body::{Answer, Ask, Body, Entry, Point, PointStage, Task};
@@ -38,11 +38,7 @@ fn joined_by<B: Body>(alloc: Global, p: &Point<B>, ask: &Ask<B>) -> Result<Optio
 }
 
 /// Adds the join, and whether it is answered.
-fn note_join(
-    joined: Option<Name>,
-    given: &BTreeMap<Name, Entry>,
-    acts: &mut ActList,
-) -> Result<(), Oom>
+fn note_join(joined: Option<Name>, given: &NameMap<Entry>, acts: &mut ActList) -> Result<(), Oom>
     ensures { IfOk result (λ _. acts.new
         ≡ acts.old ++ noted.join_noted (assignment_in given.now) joined) }
 {
@@ -73,7 +69,7 @@ fn ask_noting<B: Body>(
     alloc: Global,
     p: &mut Point<B>,
     answer: Answer,
-    given: &BTreeMap<Name, Entry>,
+    given: &NameMap<Entry>,
     acts: &mut ActList,
 ) -> Result<(), Oom>
     requires good { let rules = rules_of B.places B.awaits B.left B.asks B.then false in
@@ -99,7 +95,7 @@ fn ask_noting<B: Body>(
 fn advance_noting<B: Body>(
     alloc: Global,
     p: &mut Point<B>,
-    given: &BTreeMap<Name, Entry>,
+    given: &NameMap<Entry>,
     acts: &mut ActList,
 ) -> Result<bool, Oom>
     requires good { let rules = rules_of B.places B.awaits B.left B.asks B.then false in
@@ -127,7 +123,7 @@ fn advance_noting<B: Body>(
 pub fn line_of<B: Body>(
     alloc: Global,
     task: Task<B>,
-    given: &BTreeMap<Name, Entry>,
+    given: &NameMap<Entry>,
 ) -> Result<(ActLine, Vec<Task<B>>), Oom>
     requires proper { let rules = rules_of B.places B.awaits B.left B.asks B.then false in
         IsProper rules task }

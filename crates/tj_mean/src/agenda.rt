@@ -7,8 +7,8 @@ ghost use Rattle.tj_body.specs.declared.point.Point.{Point};
 ghost use Rattle.tj_mean.specs.Inner.Assignments.{assignment_in};
 ghost use Rattle.tj_mean.specs.Inner.Reached.{CanGoOn};
 
+use crate::name_map::NameMap;
 use std::alloc::Global;
-use std::collections::BTreeMap;
 use tj_base::{Name, Oom};
 use tj_body::{Body, Entry, Point, PointStage};
 
@@ -18,7 +18,7 @@ pub struct Agenda {
     /// Those that were woken.
     woken: Vec<usize>,
     /// Those that wait, by the cells that they wait for.
-    waiting: BTreeMap<Name, Vec<usize>>,
+    waiting: NameMap<Vec<usize>>,
     /// From this index on tasks were not taken up yet.
     fresh: usize,
 }
@@ -28,7 +28,7 @@ impl Agenda {
     pub fn new(alloc: Global) -> Agenda {
         Agenda {
             woken: Vec::new(alloc),
-            waiting: BTreeMap::new(alloc),
+            waiting: NameMap::new(alloc),
             fresh: 0,
         }
     }
@@ -38,19 +38,18 @@ impl Agenda {
         let PointStage::Waits { cell, spare: _ } = stage else {
             return Ok(());
         };
-        let mut indexes = match self.waiting.remove(cell) {
+        let mut indexes = match self.waiting.take(cell) {
             Some(indexes) => indexes,
             None => Vec::new(alloc),
         };
         indexes.push(at)?;
-        self.waiting.insert(cell.copy(alloc)?, indexes)?;
-        Ok(())
+        self.waiting.put(alloc, cell.copy(alloc)?, indexes)
     }
 
     /// These cells have entries, and those that wait for them can go on.
     pub fn wake(&mut self, writes: &[(Name, Entry)]) -> Result<(), Oom> {
         for (cell, _became) in writes {
-            if let Some(mut indexes) = self.waiting.remove(cell) {
+            if let Some(mut indexes) = self.waiting.take(cell) {
                 self.woken.append(&mut indexes)?;
             }
         }
@@ -58,11 +57,7 @@ impl Agenda {
     }
 
     /// The index of a task that can go on, if there is one.
-    pub fn next<B: Body>(
-        &mut self,
-        points: &[Point<B>],
-        given: &BTreeMap<Name, Entry>,
-    ) -> Option<usize>
+    pub fn next<B: Body>(&mut self, points: &[Point<B>], given: &NameMap<Entry>) -> Option<usize>
         ensures some { IfSome result (CanGoOn (assignment_in given.now) points.now) }
         ensures none { IfNone result ((p : Point B) → IsIn p points.now
             → HasStopped (assignment_in given.now) p) }
@@ -84,7 +79,7 @@ impl Agenda {
 }
 
 /// Whether this is the index of a task that can go on.
-fn is_ready<B: Body>(points: &[Point<B>], at: usize, given: &BTreeMap<Name, Entry>) -> bool
+fn is_ready<B: Body>(points: &[Point<B>], at: usize, given: &NameMap<Entry>) -> bool
     ensures { IsTrue result → CanGoOn (assignment_in given.now) points.now at }
 {
     if at >= points.len() {
@@ -94,7 +89,7 @@ fn is_ready<B: Body>(points: &[Point<B>], at: usize, given: &BTreeMap<Name, Entr
 }
 
 /// The index of the first task that can go on.
-fn first_of<B: Body>(points: &[Point<B>], given: &BTreeMap<Name, Entry>) -> Option<usize>
+fn first_of<B: Body>(points: &[Point<B>], given: &NameMap<Entry>) -> Option<usize>
     ensures some { IfSome result (CanGoOn (assignment_in given.now) points.now) }
     ensures none { IfNone result ((p : Point B) → IsIn p points.now
         → HasStopped (assignment_in given.now) p) }
@@ -108,7 +103,7 @@ fn first_of<B: Body>(points: &[Point<B>], given: &BTreeMap<Name, Entry>) -> Opti
 }
 
 /// Whether the task can go on.
-fn goes_on<B: Body>(point: &Point<B>, given: &BTreeMap<Name, Entry>) -> bool
+fn goes_on<B: Body>(point: &Point<B>, given: &NameMap<Entry>) -> bool
     ensures goes { IsTrue result → ¬ HasStopped (assignment_in given.now) point.now }
     ensures stopped { IsFalse result → HasStopped (assignment_in given.now) point.now }
 {

@@ -1,15 +1,12 @@
 //! What a task has forked and written where it stops, which goes on to the others.
-ghost use Rattle.std.specs.Prelude.{◌≡◌, ◌++◌, map, IfOk, OnOk};
-ghost use Rattle.std.specs.BTreeMap.{Updates};
-ghost use Rattle.std.specs.Cmp.Lexicographic.{slice_cmp};
-ghost use Rattle.std.specs.Ordering.{nat_cmp};
+ghost use Rattle.std.specs.Prelude.{◌≡◌, ◌++◌, map, IfOk};
 ghost use Rattle.tj_body.specs.History as history;
 ghost use Rattle.tj_mean.specs.Inner.Assignments.{assignment_in};
 ghost use Rattle.tj_mean.specs.Inner.Reached.{Enters, emptied};
 
 use crate::history_steps::start;
+use crate::name_map::NameMap;
 use std::alloc::Global;
-use std::collections::BTreeMap;
 use std::mem::replace;
 use tj_base::{Items, Name, Oom};
 use tj_body::{Body, Entry, Point, Task};
@@ -48,20 +45,16 @@ pub fn start_all<B: Body>(
 }
 
 /// The cells have these entries.
-pub fn enter_all(given: &mut BTreeMap<Name, Entry>, writes: Vec<(Name, Entry)>) -> Result<(), Oom>
+pub fn enter_all(
+    alloc: Global,
+    given: &mut NameMap<Entry>,
+    writes: Vec<(Name, Entry)>,
+) -> Result<(), Oom>
     ensures { IfOk result (λ _.
         Enters writes.items (assignment_in given.old) (assignment_in given.new)) }
 {
     for (cell, became) in writes {
-        put(given, cell, became)?;
+        given.put(alloc, cell, became)?;
     }
-    Ok(())
-}
-
-/// From now on this became of the cell.
-fn put(given: &mut BTreeMap<Name, Entry>, cell: Name, became: Entry) -> Result<(), Oom>
-    ensures { OnOk result (Updates (slice_cmp nat_cmp) given.old given.new cell (Some became)) }
-{
-    given.insert(cell, became)?;
     Ok(())
 }

@@ -10,9 +10,9 @@ ghost use Rattle.tj_mean.specs.Inner.Reached.{Reaches};
 ghost use Rattle.tj_mean.specs.Outcomes.{ending_of};
 
 use crate::ask_steps::{copy_reference, fail, give, take};
+use crate::name_map::NameMap;
 use crate::outcome::PlanFault;
 use std::alloc::Global;
-use std::collections::BTreeMap;
 use tj_base::{Cause, Items, Name, Oom, Sort};
 use tj_body::{Answer, Body, Entry, Point, PointStage, Reference, Task, Value};
 
@@ -52,7 +52,7 @@ fn read<B: Body>(
 pub fn advance<B: Body>(
     alloc: Global,
     p: &mut Point<B>,
-    given: &BTreeMap<Name, Entry>,
+    given: &NameMap<Entry>,
     strict: bool,
 ) -> Result<bool, Oom>
     requires good { let rules = rules_of B.places B.awaits B.left B.asks B.then strict in
@@ -115,7 +115,7 @@ pub fn start<B: Body>(alloc: Global, task: Task<B>) -> Result<Point<B>, Oom>
 pub fn go_on<B: Body>(
     alloc: Global,
     p: &mut Point<B>,
-    given: &BTreeMap<Name, Entry>,
+    given: &NameMap<Entry>,
     strict: bool,
     most: u32,
 ) -> Result<(), PlanFault>

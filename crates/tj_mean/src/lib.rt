@@ -11,6 +11,7 @@ mod held_names;
 mod history_steps;
 mod laws;
 mod least_indexes;
+mod name_map;
 mod outcome;
 mod owners;
 mod round;

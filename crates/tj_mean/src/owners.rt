@@ -5,20 +5,20 @@ ghost use Rattle.tj_body.specs.Names.{has, same};
 ghost use Rattle.tj_mean.specs.Inner.Owners.{AreOwners, owner_in};
 ghost use Rattle.tj_mean.specs.Outcomes.{owned_by};
 
+use crate::name_map::NameMap;
 use crate::outcome::Ending;
 use crate::stopped::Stopped;
 use std::alloc::Global;
-use std::collections::BTreeMap;
 use tj_base::{Name, Oom};
 
 /// The index of the task that owns it, for each cell that a task owns.
-pub type Owners = BTreeMap<Name, usize>;
+pub type Owners = NameMap<usize>;
 
 /// The owners of all cells that these tasks own.
 pub fn owners_of(alloc: Global, tasks: &[Stopped]) -> Result<Owners, Oom>
     ensures { IfOk result (AreOwners tasks.now) }
 {
-    let mut owners = BTreeMap::new(alloc);
+    let mut owners = NameMap::new(alloc);
     for (index, task) in tasks.iter().enumerate() {
         enter_task(alloc, &mut owners, index, task)?;
     }
@@ -56,7 +56,7 @@ fn enter(alloc: Global, owners: &mut Owners, index: usize, cell: &Name) -> Resul
         ≡ cond (same q cell.now) (Some index) (owner_in owners.old q)) }
 {
     let copy = cell.copy(alloc)?;
-    owners.insert(copy, index)?;
+    owners.put(alloc, copy, index)?;
     Ok(())
 }
 

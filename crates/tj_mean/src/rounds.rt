@@ -19,14 +19,14 @@ use crate::agenda::Agenda;
 use crate::handed_on::{enter_all, hand_on, start_all};
 use crate::history_steps::{go_on, start};
 use crate::laws::{meaning_is_apart, order_is_free, outcome_has_cycle_where_waits};
+use crate::name_map::NameMap;
 use crate::outcome::{Outcome, PlanFault};
 use crate::round::root_task;
 use crate::stopped::{StoppedBody, bodies_of, told_of};
 use crate::told::outcome_of;
 use crate::unanswered::is_full_early;
 use std::alloc::Global;
-use std::collections::BTreeMap;
-use tj_base::{Name, Oom};
+use tj_base::Oom;
 use tj_body::{Body, Entry, Point};
 
 /// The outcome of the meaning of this root's program.
@@ -90,7 +90,7 @@ pub fn bodies<B: Body>(
 /// Where no task can go on.
 #[derive(Drop)]
 pub struct AtRest<B> {
-    pub given: BTreeMap<Name, Entry>,
+    pub given: NameMap<Entry>,
     pub points: Vec<Point<B>>,
 }
 
@@ -115,7 +115,7 @@ pub fn at_rest<B: Body>(
         IfOk result (λ rest. AreEntriesOf p cells (assignment_in rest.given)) }
 {
     let mut points = first_points(alloc, root)?;
-    let mut given = BTreeMap::new(alloc);
+    let mut given = NameMap::new(alloc);
     let mut left = cells - 1;
     let mut agenda = Agenda::new(alloc);
     let mut looked = false;
@@ -137,7 +137,7 @@ pub fn at_rest<B: Body>(
         agenda.stop(alloc, at, &points[at].stage)?;
         let handed = hand_on(alloc, &mut points[at]);
         agenda.wake(handed.writes.as_slice())?;
-        enter_all(&mut given, handed.writes)?;
+        enter_all(alloc, &mut given, handed.writes)?;
         start_all(alloc, &mut points, handed.children)?;
     }
     Ok(AtRest { given, points })

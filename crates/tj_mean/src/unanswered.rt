@@ -9,10 +9,11 @@ ghost use Rattle.tj_body.specs.Programs.{program_of};
 ghost use Rattle.tj_body.specs.Rounds as rounds;
 
 use crate::history_steps::{go_on, start};
+use crate::name_map::NameMap;
 use crate::outcome::PlanFault;
 use crate::round::root_task;
 use std::alloc::Global;
-use std::collections::{BTreeMap, VecDeque};
+use std::collections::VecDeque;
 use std::mem::replace;
 use tj_base::{Items, Oom};
 use tj_body::{Body, Point, Task};
@@ -63,7 +64,7 @@ fn is_full_unanswered<B: Body>(
     ensures { let p = program_of B.places B.awaits B.left B.asks B.then strict root.now in
         IfOk result (λ found. IsTrue found → rounds.IsFull p cells) }
 {
-    let none = BTreeMap::new(alloc);
+    let none = NameMap::new(alloc);
     let mut tasks = first_tasks(alloc, root)?;
     let mut left = cells - 1;
     while let Some(task) = tasks.pop_front() {

@@ -1,7 +1,6 @@
 -- An operand that is an expression by itself: what stands behind it doesn't go on with the expression.
-use Rattle.std.proofs.Common.{◌≡◌, ℕ, ◌-◌, List, [], ◌∷◌, drop, Bool, true, false, Option, Some, None, Ok, Err}
+use Rattle.std.proofs.Common.{◌≡◌, ℕ, ◌-◌, List, ◌∷◌, drop, true, Option, Some, None, Ok, Err}
 use Rattle.std.proofs.Common.{refl, sym, ap, ◌∙◌, arith}
-use Rattle.std.specs.Prelude.{◌&&◌}
 use Rattle.tj_lex.specs.declared.token.Tok.{Tok}
 use Rattle.tj_lex.specs.declared.token.Tok.TheVariants as toks
 use Rattle.tj_lex.specs.declared.token.Key.TheVariants as k
@@ -10,9 +9,9 @@ use Rattle.tj_syntax.specs.declared.fault.Stop.{Stop}
 use Rattle.tj_syntax.specs.Trees as tree
 use Rattle.tj_syntax.specs.Trees.{Expression}
 use Rattle.tj_syntax.specs.Marks.{index_of}
-use Rattle.tj_syntax.specs.Inner.Input.{Input, Parser, first, next, known, known_at, ◌<$>◌, ◌>>=◌}
+use Rattle.tj_syntax.specs.Inner.Input.{Input, Parser, first, next, known, known_at, ◌<$>◌}
 use Rattle.tj_syntax.specs.Inner.Reading.{unary, unary_by, expression_over, chain, pairs, pairs_from}
-use Rattle.tj_syntax.specs.Inner.Reading.{is_leaf, ends_expression, stands_alone}
+use Rattle.tj_syntax.specs.Inner.Reading.{ends_expression, stands_alone}
 use Rattle.tj_syntax.proofs.Unrolls.{unary-is}
 
 -- the expression ends where the operand ends

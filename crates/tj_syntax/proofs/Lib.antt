@@ -12,3 +12,5 @@ pub mod Same
 pub mod Listed
 pub mod Starting
 pub mod ScriptTexts
+pub mod Bare
+pub mod PairStops

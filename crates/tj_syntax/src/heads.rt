@@ -4,12 +4,11 @@ ghost use Rattle.std.specs.Prelude.{◌≡◌, ◌≤◌, length, map};
 ghost use Rattle.tj_syntax.specs.Marks.{most_tasks};
 
 use crate::names::Names;
-use tj_lex::Word;
 
 /// A task's name, the number of its parameters, and how many tokens are left from its name on.
 #[derive(Clone, Copy)]
 pub(crate) struct Head<'t> {
-    pub name: &'t Word,
+    pub name: &'t [u8],
     pub params: usize,
     pub left: usize,
 }

@@ -33,3 +33,5 @@ pub use script::{Decl, Script};
 pub use script_text::{NoScript, script_in};
 pub use stmt::{Arg, Block, Call, Rhs, Stmt};
 pub use text_ends::position_behind;
+
+mod ahead;

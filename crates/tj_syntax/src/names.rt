@@ -64,7 +64,7 @@ impl<'t> Names<'t> {
     }
 
     /// Adds a name that isn't there yet.
-    pub(crate) fn add(&mut self, alloc: Global, name: &'t Word) -> Result<(), Stop>
+    pub(crate) fn add(&mut self, alloc: Global, name: &'t [u8]) -> Result<(), Stop>
         requires new { index_of self.old name.now ≡ None }
         requires few { length self.old < MAX_TASKS }
         ensures ok { OnOk result (self.new ≡ self.old ++ name.now ∷ []) }
@@ -72,8 +72,8 @@ impl<'t> Names<'t> {
         ensures kept { OnErr result (self.new ≡ self.old) }
     {
         let number = self.list.len() as u32;
-        self.list.push(Word::copied(alloc, name.bytes())?)?;
-        match self.numbers.insert(name.bytes(), number) {
+        self.list.push(Word::copied(alloc, name)?)?;
+        match self.numbers.insert(name, number) {
             Ok(_) => Ok(()),
             Err(_) => {
                 self.list.pop();

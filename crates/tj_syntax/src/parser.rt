@@ -1,24 +1,27 @@
 //! What is left to read of a script, with what is known there, and the steps that every rule is
 //! made of. A step that fails leaves the token at which it failed as the next one.
-ghost use Rattle.std.specs.Prelude.{◌≡◌, ◌≢◌, ◌<◌, IfOk, Ok, None, length, option_copied};
+ghost use Rattle.std.specs.Prelude.{◌≡◌, ◌≢◌, ◌<◌, IfOk, Ok, None, length};
+ghost use Rattle.std.specs.Option.{option_map};
+ghost use Rattle.tj_lex.specs.Shorts.{tok_seen};
 ghost use Rattle.tj_syntax.specs.Inner.State.{input_of};
 ghost use Rattle.tj_syntax.specs.Inner.Input as spec;
 ghost use Rattle.tj_syntax.specs.Inner.Input.{Reads};
 ghost use Rattle.tj_syntax.specs.Marks.{index_of};
 
+use crate::ahead::Ahead;
 use crate::fault::{Breach, Stop};
 use crate::heads::Heads;
 use crate::names::Names;
 use crate::script::MAX_VARS;
 use std::alloc::Global;
-use tj_lex::{Mark, Tok, Token, Word};
+use tj_lex::{Mark, Seen};
 
 /// The state of a parser.
 #[derive(Drop)]
 pub(crate) struct Parser<'t> {
     pub alloc: Global,
     /// The tokens that are left, without the end.
-    pub rest: &'t [Token],
+    pub ahead: Ahead<'t>,
     /// The variables that are known.
     pub vars: Names<'t>,
     /// The tasks of the script.
@@ -29,43 +32,39 @@ pub(crate) struct Parser<'t> {
 
 impl<'t> Parser<'t> {
     /// The next token, unless only the end is left.
-    pub(crate) fn peek(&self) -> Option<&'t Tok>
-        ensures { option_copied result ≡ spec.first (input_of self.now).ahead }
+    #[inline(always)]
+    pub(crate) fn peek(&self) -> Option<Seen<'t>>
+        ensures { option_map tok_seen result ≡ spec.first (input_of self.now).ahead }
     {
-        match self.rest.first() {
-            Some(token) => Some(&token.what),
-            None => None,
-        }
+        self.ahead.first()
     }
 
     /// How many tokens are left.
     pub(crate) fn left(&self) -> usize
         ensures { result ≡ length (input_of self.now).ahead }
     {
-        self.rest.len()
+        self.ahead.rest.len()
     }
 
     /// Goes behind the next token.
     pub(crate) fn skip(&mut self)
         ensures { input_of self.new ≡ spec.next (input_of self.old) }
     {
-        if let Some((_, rest)) = self.rest.split_first() {
-            self.rest = rest;
-        }
+        self.ahead = self.ahead.behind_first();
     }
 
     /// The fault of a token that can't follow.
     pub(crate) fn refuse(&self) -> Stop
         ensures { result ≡ Stop.Expected (length (input_of self.now).ahead) }
     {
-        Stop::Expected(self.rest.len())
+        Stop::Expected(self.ahead.rest.len())
     }
 
     /// The fault of a token that breaks a rule.
     pub(crate) fn breaks(&self, breach: Breach) -> Stop
         ensures { result ≡ Stop.Broken breach (length (input_of self.now).ahead) }
     {
-        Stop::Broken(breach, self.rest.len())
+        Stop::Broken(breach, self.ahead.rest.len())
     }
 
     /// Whether the next token is this mark.
@@ -73,7 +72,7 @@ impl<'t> Parser<'t> {
         ensures { result ≡ spec.sees mark (input_of self.now) }
     {
         match self.peek() {
-            Some(Tok::Mark(found)) => same_mark(mark, *found),
+            Some(Seen::Mark(found)) => same_mark(mark, found),
             _ => false,
         }
     }
@@ -121,12 +120,12 @@ impl<'t> Parser<'t> {
 
     /// Takes a variable, which has to be known.
     #[tactic(auto, unfolding(crate::specs::Inner::Input::known))]
-    pub(crate) fn known(&mut self, name: &Word) -> Result<u32, Stop>
+    pub(crate) fn known(&mut self, name: &[u8]) -> Result<u32, Stop>
         ensures reads { Reads (λ n. n) (spec.known name.now (input_of self.old))
             result (input_of self.new) }
         ensures no_memory { result ≢ Err Stop.Oom }
     {
-        match self.vars.number_of(name.bytes()) {
+        match self.vars.number_of(name) {
             Some(number) => {
                 self.skip();
                 Ok(number)
@@ -141,13 +140,13 @@ impl<'t> Parser<'t> {
         ensures no_memory { result ≢ Err Stop.Oom }
     {
         match self.peek() {
-            Some(Tok::Name(name)) => self.known(name),
+            Some(Seen::Name(name)) => self.known(name),
             _ => Err(self.refuse()),
         }
     }
 
     // Takes the name that comes next, unless it breaks a rule.
-    fn take_unless(&mut self, breach: Option<Breach>, name: &'t Word) -> Result<&'t Word, Stop>
+    fn take_unless(&mut self, breach: Option<Breach>, name: &'t [u8]) -> Result<&'t [u8], Stop>
         ensures reads { Reads (λ x. x.now)
             (spec.unless breach (λ i. Ok (name.now, spec.next i)) (input_of self.old))
             result (input_of self.new) }
@@ -162,26 +161,26 @@ impl<'t> Parser<'t> {
 
     /// Takes a name that is declared, where these are declared already and so many may be.
     #[tactic(auto, unfolding(crate::specs::Inner::Input::fresh))]
-    pub(crate) fn fresh(&mut self, most: usize, earlier: &Names<'t>) -> Result<&'t Word, Stop>
+    pub(crate) fn fresh(&mut self, most: usize, earlier: &Names<'t>) -> Result<&'t [u8], Stop>
         ensures reads { Reads (λ x. x.now) (spec.fresh most earlier.now (input_of self.old))
             result (input_of self.new) }
         ensures no_memory { result ≢ Err Stop.Oom }
     {
         match self.peek() {
-            Some(Tok::Name(name)) => self.take_unless(breach(most, earlier, name), name),
+            Some(Seen::Name(name)) => self.take_unless(breach(most, earlier, name), name),
             _ => Err(self.refuse()),
         }
     }
 
     /// Takes the name of a variable that is declared.
     #[tactic(auto, unfolding(crate::specs::Inner::Input::fresh))]
-    pub(crate) fn fresh_variable(&mut self) -> Result<&'t Word, Stop>
+    pub(crate) fn fresh_variable(&mut self) -> Result<&'t [u8], Stop>
         ensures reads { Reads (λ x. x.now) (spec.fresh_variable (input_of self.old))
             result (input_of self.new) }
         ensures no_memory { result ≢ Err Stop.Oom }
     {
         match self.peek() {
-            Some(Tok::Name(name)) => {
+            Some(Seen::Name(name)) => {
                 let breach = breach(MAX_VARS, &self.vars, name);
                 self.take_unless(breach, name)
             }
@@ -190,7 +189,7 @@ impl<'t> Parser<'t> {
     }
 
     /// Makes a variable known.
-    pub(crate) fn add_variable(&mut self, name: &'t Word) -> Result<(), Stop>
+    pub(crate) fn add_variable(&mut self, name: &'t [u8]) -> Result<(), Stop>
         requires new { index_of (input_of self.old).vars name.now ≡ None }
         requires few { length (input_of self.old).vars < MAX_VARS }
         ensures { Reads (λ _. tt) (spec.add_variable name.now (input_of self.old))
@@ -201,11 +200,11 @@ impl<'t> Parser<'t> {
 
     /// The number of a forked task. Keeps the fault of the fork, if it is the first.
     #[tactic(auto, unfolding(crate::specs::Inner::Input::note_fork))]
-    pub(crate) fn note_fork(&mut self, name: &Word, left: usize, count: usize) -> u32
+    pub(crate) fn note_fork(&mut self, name: &[u8], left: usize, count: usize) -> u32
         ensures { spec.note_fork name.now left count (input_of self.old)
             ≡ Ok (result, input_of self.new) }
     {
-        let task = self.heads.number_of(name.bytes());
+        let task = self.heads.number_of(name);
         if self.flaw.is_none() {
             self.flaw = self.heads.flaw_at(task, left, count);
         }
@@ -215,10 +214,10 @@ impl<'t> Parser<'t> {
 
 /// How a name breaks a rule as one that is declared, where these are declared already and so many
 /// may be.
-pub(crate) fn breach(most: usize, earlier: &Names<'_>, name: &Word) -> Option<Breach>
+pub(crate) fn breach(most: usize, earlier: &Names<'_>, name: &[u8]) -> Option<Breach>
     ensures { result ≡ spec.breach_of most earlier.now name.now }
 {
-    if earlier.number_of(name.bytes()).is_some() {
+    if earlier.number_of(name).is_some() {
         return Some(Breach::Twice);
     }
     if earlier.len() >= most {

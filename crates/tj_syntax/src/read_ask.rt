@@ -11,7 +11,7 @@ use crate::expr::{Expr, RefOf};
 use crate::fault::Stop;
 use crate::parser::Parser;
 use crate::stmt::{Arg, Call, Rhs};
-use tj_lex::{Key, Mark, Tok, Word};
+use tj_lex::{Key, Mark, Seen};
 
 impl<'t> Parser<'t> {
     /// An ask or an expression.
@@ -21,7 +21,7 @@ impl<'t> Parser<'t> {
             result (input_of self.new) }
     {
         match self.peek() {
-            Some(Tok::Key(Key::New | Key::Fork | Key::Get | Key::Join)) => {
+            Some(Seen::Key(Key::New | Key::Fork | Key::Get | Key::Join)) => {
                 Ok(Rhs::Call(self.ask(room)?))
             }
             _ => Ok(Rhs::Expr(self.expression(room)?)),
@@ -35,20 +35,20 @@ impl<'t> Parser<'t> {
             result (input_of self.new) }
     {
         match self.peek() {
-            Some(Tok::Key(Key::New)) => {
+            Some(Seen::Key(Key::New)) => {
                 self.skip();
                 Ok(Call::New)
             }
-            Some(Tok::Key(Key::Fork)) => {
+            Some(Seen::Key(Key::Fork)) => {
                 self.skip();
                 self.fork(room)
             }
-            Some(Tok::Key(Key::Get)) => {
+            Some(Seen::Key(Key::Get)) => {
                 self.skip();
                 let (r, other) = self.asked(room)?;
                 Ok(Call::Get(r, other))
             }
-            Some(Tok::Key(Key::Join)) => {
+            Some(Seen::Key(Key::Join)) => {
                 self.skip();
                 let (r, other) = self.asked(room)?;
                 Ok(Call::Join(r, other))
@@ -73,13 +73,13 @@ impl<'t> Parser<'t> {
 
     /// The name of a forked task, and how many tokens are left from it on.
     #[tactic(auto, unfolding(crate::specs::Inner::Reading::forked))]
-    fn forked(&mut self) -> Result<(&'t Word, usize), Stop>
+    fn forked(&mut self) -> Result<(&'t [u8], usize), Stop>
         ensures reads { Reads (λ f. (f.0.now, f.1)) (reading.forked (input_of self.old))
             result (input_of self.new) }
         ensures no_memory { result ≢ Err Stop.Oom }
     {
         match self.peek() {
-            Some(Tok::Name(name)) => {
+            Some(Seen::Name(name)) => {
                 let left = self.left();
                 self.skip();
                 Ok((name, left))
@@ -114,7 +114,7 @@ impl<'t> Parser<'t> {
             result (input_of self.new) }
     {
         match self.peek() {
-            Some(Tok::Key(Key::Own)) => {
+            Some(Seen::Key(Key::Own)) => {
                 self.skip();
                 Ok(Arg::Own(self.variable()?))
             }
@@ -141,8 +141,8 @@ impl<'t> Parser<'t> {
         ensures no_memory { result ≢ Err Stop.Oom }
     {
         match self.peek() {
-            Some(Tok::Name(name)) => Ok(RefOf::Var(self.known(name)?)),
-            Some(Tok::Key(Key::Me)) => {
+            Some(Seen::Name(name)) => Ok(RefOf::Var(self.known(name)?)),
+            Some(Seen::Key(Key::Me)) => {
                 self.skip();
                 Ok(RefOf::Me)
             }
@@ -157,7 +157,7 @@ impl<'t> Parser<'t> {
             (reading.or_else room (input_of self.old)) result (input_of self.new) }
     {
         match self.peek() {
-            Some(Tok::Key(Key::Or)) => {
+            Some(Seen::Key(Key::Or)) => {
                 self.skip();
                 Ok(Some(self.expression(room)?))
             }

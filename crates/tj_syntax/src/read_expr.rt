@@ -1,6 +1,8 @@
 //! Reading expressions, by the levels at which their operators bind.
-ghost use Rattle.std.specs.Prelude.{◌≡◌, ◌+◌, ◌*◌, ◌<◌, IfOk, IfSome, map, length, option_copied};
-ghost use Rattle.tj_syntax.specs.Inner.State.{input_of};
+ghost use Rattle.std.specs.Prelude.{◌≡◌, ◌+◌, ◌*◌, ◌<◌, IfOk, IfSome, map, length};
+ghost use Rattle.std.specs.Option.{option_map};
+ghost use Rattle.tj_lex.specs.Shorts.{tok_seen};
+ghost use Rattle.tj_syntax.specs.Inner.State.{bare, input_of};
 ghost use Rattle.tj_syntax.specs.View.{expression, pair};
 ghost use Rattle.tj_syntax.specs.Inner.Input as spec;
 ghost use Rattle.tj_syntax.specs.Inner.Input.{Reads};
@@ -13,7 +15,7 @@ use crate::expr::{Expr, Op, Rel};
 use crate::fault::Stop;
 use crate::parser::Parser;
 use std::alloc::{AllocError, Global};
-use tj_lex::{Key, Mark, Tok};
+use tj_lex::{Key, Kind, Mark, Seen, Short};
 
 /// The levels of chains: sums have products as operands, and products unaries.
 #[derive(Clone, Copy)]
@@ -23,52 +25,52 @@ pub(crate) enum Level {
 }
 
 /// The operator of a level that a token is.
-fn operator(level: Level, token: Option<&Tok>) -> Option<Op>
-    ensures { result ≡ reading.operator level (option_copied token.entry) }
+fn operator(level: Level, token: Option<Seen<'_>>) -> Option<Op>
+    ensures { result ≡ reading.operator level (option_map tok_seen token.entry) }
 {
     match (level, token) {
-        (Level::Sums, Some(Tok::Mark(Mark::Plus))) => Some(Op::Plus),
-        (Level::Sums, Some(Tok::Mark(Mark::Minus))) => Some(Op::Minus),
-        (Level::Products, Some(Tok::Mark(Mark::Times))) => Some(Op::Times),
-        (Level::Products, Some(Tok::Mark(Mark::Over))) => Some(Op::Over),
-        (Level::Products, Some(Tok::Mark(Mark::Rest))) => Some(Op::Rest),
+        (Level::Sums, Some(Seen::Mark(Mark::Plus))) => Some(Op::Plus),
+        (Level::Sums, Some(Seen::Mark(Mark::Minus))) => Some(Op::Minus),
+        (Level::Products, Some(Seen::Mark(Mark::Times))) => Some(Op::Times),
+        (Level::Products, Some(Seen::Mark(Mark::Over))) => Some(Op::Over),
+        (Level::Products, Some(Seen::Mark(Mark::Rest))) => Some(Op::Rest),
         _ => None,
     }
 }
 
 /// The comparison that a token is.
-fn relation(token: Option<&Tok>) -> Option<Rel>
-    ensures { result ≡ reading.relation (option_copied token.entry) }
+fn relation(token: Option<Seen<'_>>) -> Option<Rel>
+    ensures { result ≡ reading.relation (option_map tok_seen token.entry) }
 {
     match token {
-        Some(Tok::Mark(Mark::Eq)) => Some(Rel::Eq),
-        Some(Tok::Mark(Mark::Ne)) => Some(Rel::Ne),
-        Some(Tok::Mark(Mark::Lt)) => Some(Rel::Lt),
-        Some(Tok::Mark(Mark::Le)) => Some(Rel::Le),
-        Some(Tok::Mark(Mark::Gt)) => Some(Rel::Gt),
-        Some(Tok::Mark(Mark::Ge)) => Some(Rel::Ge),
+        Some(Seen::Mark(Mark::Eq)) => Some(Rel::Eq),
+        Some(Seen::Mark(Mark::Ne)) => Some(Rel::Ne),
+        Some(Seen::Mark(Mark::Lt)) => Some(Rel::Lt),
+        Some(Seen::Mark(Mark::Le)) => Some(Rel::Le),
+        Some(Seen::Mark(Mark::Gt)) => Some(Rel::Gt),
+        Some(Seen::Mark(Mark::Ge)) => Some(Rel::Ge),
         _ => None,
     }
 }
 
 /// Whether the token is an operand by itself.
 #[inline(always)]
-fn is_leaf(token: &Tok) -> bool
-    ensures { result ≡ reading.is_leaf token.now }
+fn is_leaf(token: Short) -> bool
+    ensures { result ≡ reading.is_leaf (bare token) }
 {
-    match token {
-        Tok::Num(_) | Tok::Name(_) | Tok::Key(Key::Me) => true,
+    match token.what {
+        Kind::Num | Kind::Name | Kind::Key(Key::Me) => true,
         _ => false,
     }
 }
 
 /// Whether an expression ends in front of the token.
 #[inline(always)]
-fn ends_expression(token: &Tok) -> bool
-    ensures { result ≡ reading.ends_expression token.now }
+fn ends_expression(token: Short) -> bool
+    ensures { result ≡ reading.ends_expression (bare token) }
 {
-    match token {
-        Tok::Mark(Mark::Semi | Mark::Comma | Mark::ParenClose | Mark::BraceOpen) => true,
+    match token.what {
+        Kind::Mark(Mark::Semi | Mark::Comma | Mark::ParenClose | Mark::BraceOpen) => true,
         _ => false,
     }
 }
@@ -104,8 +106,8 @@ impl<'t> Parser<'t> {
     fn stands_alone(&self) -> bool
         ensures { result ≡ reading.stands_alone (input_of self.now).ahead }
     {
-        match self.rest {
-            [operand, behind, ..] => is_leaf(&operand.what) && ends_expression(&behind.what),
+        match self.ahead.rest {
+            [operand, behind, ..] => is_leaf(*operand) && ends_expression(*behind),
             _ => false,
         }
     }
@@ -181,21 +183,21 @@ impl<'t> Parser<'t> {
             result (input_of self.new) }
     {
         match self.peek() {
-            Some(Tok::Num(n)) => {
+            Some(Seen::Num(n)) => {
                 self.skip();
-                Ok(Expr::Num(*n))
+                Ok(Expr::Num(n))
             }
-            Some(Tok::Name(name)) => Ok(Expr::Var(self.known(name)?)),
-            Some(Tok::Key(Key::Me)) => {
+            Some(Seen::Name(name)) => Ok(Expr::Var(self.known(name)?)),
+            Some(Seen::Key(Key::Me)) => {
                 self.skip();
                 Ok(Expr::Me)
             }
-            Some(Tok::Mark(Mark::Minus)) => {
+            Some(Seen::Mark(Mark::Minus)) => {
                 self.open(room)?;
                 let x = self.unary(room - 1)?;
                 Ok(negation(self.alloc, x)?)
             }
-            Some(Tok::Mark(Mark::ParenOpen)) => {
+            Some(Seen::Mark(Mark::ParenOpen)) => {
                 self.open(room)?;
                 let x = self.expression(room - 1)?;
                 self.expect(Mark::ParenClose)?;

@@ -1,7 +1,9 @@
 //! Reading and finding the heads of tasks.
-ghost use Rattle.std.specs.Prelude.{◌≡◌, ◌≤◌, [], ◌<◌, IfOk, IfSome, OnOk, length, map};
+ghost use Rattle.std.specs.Prelude.{◌≡◌, ◌≤◌, [], ◌<◌, All, IfOk, IfSome, OnOk, length, map};
 ghost use Rattle.std.specs.Option.{option_map};
+ghost use Rattle.tj_lex.specs.Shorts.{IsIn, what_of};
 ghost use Rattle.tj_syntax.specs.Inner.Input as spec;
+ghost use Rattle.tj_syntax.specs.Inner.State.{bare};
 ghost use Rattle.tj_syntax.specs.Inner.Heads.{head_of, heads_of};
 ghost use Rattle.tj_syntax.specs.Inner.Input.{names_of};
 ghost use Rattle.tj_syntax.specs.Marks.{index_of};
@@ -12,32 +14,34 @@ use crate::names::Names;
 use crate::parser::breach;
 use crate::script::MAX_TASKS;
 use std::alloc::Global;
-use tj_lex::{Key, Mark, Tok, Token, Word};
+use tj_lex::{Key, Kind, Mark, Seen, Short};
 
 impl<'t> Heads<'t> {
     /// The heads in a script.
-    pub(crate) fn of(alloc: Global, tokens: &'t [Token]) -> Result<Heads<'t>, Stop>
+    pub(crate) fn of(alloc: Global, text: &'t [u8], tokens: &'t [Short]) -> Result<Heads<'t>, Stop>
+        requires { All (IsIn text.now) tokens.now }
         ensures { IfOk result (λ heads. heads_of heads
-            ≡ spec.heads_from [] (map (λ t. t.what) tokens.now)) }
+            ≡ spec.heads_from [] (map (what_of text.now) tokens.now)) }
     {
         let mut heads = Heads {
             names: Names::new(alloc),
             list: Vec::new(alloc),
         };
         for at in 0..tokens.len() {
-            heads.add_front(alloc, &tokens[at..])?;
+            heads.add_front(alloc, text, &tokens[at..])?;
         }
         Ok(heads)
     }
 
     /// Adds the head that stands at the front, if one does.
-    fn add_front(&mut self, alloc: Global, tokens: &'t [Token]) -> Result<(), Stop>
+    fn add_front(&mut self, alloc: Global, text: &'t [u8], tokens: &'t [Short]) -> Result<(), Stop>
+        requires { All (IsIn text.now) tokens.now }
         ensures { OnOk result (heads_of self.new
-            ≡ spec.with_front (heads_of self.old) (map (λ t. t.what) tokens.now)) }
+            ≡ spec.with_front (heads_of self.old) (map (what_of text.now) tokens.now)) }
     {
         if let [task, name, rest @ ..] = tokens
-            && let Tok::Key(Key::Task) = &task.what
-            && let Tok::Name(name) = &name.what
+            && let Kind::Key(Key::Task) = task.what
+            && let Seen::Name(name) = name.seen(text)
         {
             self.add(alloc, name, rest)?;
         }
@@ -45,9 +49,9 @@ impl<'t> Heads<'t> {
     }
 
     /// Adds the head of a task, unless it is there or they are too many.
-    fn add(&mut self, alloc: Global, name: &'t Word, rest: &'t [Token]) -> Result<(), Stop>
+    fn add(&mut self, alloc: Global, name: &'t [u8], rest: &'t [Short]) -> Result<(), Stop>
         ensures { OnOk result (heads_of self.new
-            ≡ spec.with_head (heads_of self.old) name.now (map (λ t. t.what) rest.now)) }
+            ≡ spec.with_head (heads_of self.old) name.now (map bare rest.now)) }
     {
         if breach(MAX_TASKS, &self.names, name).is_some() {
             return Ok(());
@@ -97,14 +101,14 @@ impl<'t> Heads<'t> {
 }
 
 /// How many names stand at the front, with commas between them.
-fn count_params(tokens: &[Token]) -> usize
-    ensures { result ≡ spec.count_params (map (λ t. t.what) tokens.now) }
+fn count_params(tokens: &[Short]) -> usize
+    ensures { result ≡ spec.count_params (map bare tokens.now) }
 {
     let mut count = 0;
     for token in tokens {
-        match &token.what {
-            Tok::Name(_) => count += 1,
-            Tok::Mark(Mark::ParenOpen | Mark::Comma) => {}
+        match token.what {
+            Kind::Name => count += 1,
+            Kind::Mark(Mark::ParenOpen | Mark::Comma) => {}
             _ => return count,
         }
     }

@@ -10,7 +10,7 @@ use crate::expr::Expr;
 use crate::fault::Stop;
 use crate::parser::Parser;
 use crate::stmt::{Block, Stmt};
-use tj_lex::{Key, Mark, Tok};
+use tj_lex::{Key, Mark, Seen};
 
 impl<'t> Parser<'t> {
     /// Statements between braces.
@@ -20,7 +20,7 @@ impl<'t> Parser<'t> {
             result (input_of self.new) }
     {
         match self.peek() {
-            Some(Tok::Mark(Mark::BraceOpen)) => {
+            Some(Seen::Mark(Mark::BraceOpen)) => {
                 self.open(room)?;
                 self.statements(room - 1)
             }
@@ -52,28 +52,28 @@ impl<'t> Parser<'t> {
             result (input_of self.new) }
     {
         match self.peek() {
-            Some(Tok::Key(Key::Let)) => {
+            Some(Seen::Key(Key::Let)) => {
                 self.skip();
                 self.let_new(room)
             }
-            Some(Tok::Name(_)) => self.assign(room),
-            Some(Tok::Key(Key::Print)) => {
+            Some(Seen::Name(_)) => self.assign(room),
+            Some(Seen::Key(Key::Print)) => {
                 self.skip();
                 Ok(Stmt::Print(self.ended(room)?))
             }
-            Some(Tok::Key(Key::Set)) => {
+            Some(Seen::Key(Key::Set)) => {
                 self.skip();
                 self.set_cell(room)
             }
-            Some(Tok::Key(Key::Return)) => {
+            Some(Seen::Key(Key::Return)) => {
                 self.skip();
                 Ok(Stmt::Return(self.ended(room)?))
             }
-            Some(Tok::Key(Key::If)) => {
+            Some(Seen::Key(Key::If)) => {
                 self.skip();
                 self.choose(room)
             }
-            Some(Tok::Key(Key::While)) => {
+            Some(Seen::Key(Key::While)) => {
                 self.skip();
                 self.repeat(room)
             }
@@ -103,7 +103,7 @@ impl<'t> Parser<'t> {
             result (input_of self.new) }
     {
         match self.peek() {
-            Some(Tok::Key(Key::Else)) => {
+            Some(Seen::Key(Key::Else)) => {
                 self.skip();
                 Ok(Some(self.block(room)?))
             }

@@ -10,7 +10,7 @@ use crate::names::Names;
 use crate::parser::Parser;
 use crate::script::{Decl, MAX_LEVELS, MAX_TASKS};
 use std::mem;
-use tj_lex::{Key, Mark, Tok, Word};
+use tj_lex::{Key, Mark, Seen, Word};
 
 impl<'t> Parser<'t> {
     /// The tasks up to the end.
@@ -43,7 +43,7 @@ impl<'t> Parser<'t> {
         ensures no_memory { result ≢ Err Stop.Oom }
     {
         match self.peek() {
-            Some(Tok::Key(Key::Task)) => {
+            Some(Seen::Key(Key::Task)) => {
                 self.skip();
                 Ok(())
             }
@@ -53,7 +53,7 @@ impl<'t> Parser<'t> {
 
     /// A task, behind its name.
     #[tactic(auto, unfolding(crate::specs::Inner::Reading::task_behind))]
-    fn task(&mut self, name: &Word) -> Result<Decl, Stop>
+    fn task(&mut self, name: &[u8]) -> Result<Decl, Stop>
         ensures { Reads view.task (reading.task_behind name.now (input_of self.old))
             result (input_of self.new) }
     {
@@ -64,7 +64,7 @@ impl<'t> Parser<'t> {
         let body = self.block(MAX_LEVELS)?;
         let vars = mem::replace(&mut self.vars, Names::new(self.alloc)).into_vec();
         Ok(Decl {
-            name: Word::copied(self.alloc, name.bytes())?,
+            name: Word::copied(self.alloc, name)?,
             params,
             vars,
             body,

@@ -9,7 +9,7 @@ use crate::read_script::parse;
 use crate::script::Script;
 use crate::text_ends::position_behind;
 use std::alloc::Global;
-use tj_lex::{LexFault, MAX_TEXT, Place, tokens};
+use tj_lex::{LexFault, MAX_TEXT, Place, short_tokens};
 
 /// Why bytes give no script. Want of memory is one of the tokens' faults and of the grammar's.
 #[derive(Clone, Copy, Debug)]
@@ -79,11 +79,11 @@ pub fn script_in(alloc: Global, text: &[u8]) -> Result<Script, NoScript>
         let (front, _) = text.split_at(MAX_TEXT);
         return Err(NoScript::Long(position_behind(front)));
     }
-    let found = match tokens(alloc, text) {
+    let found = match short_tokens(alloc, text) {
         Ok(found) => found,
         Err(fault) => return Err(NoScript::Tokens(fault)),
     };
-    match parse(alloc, found.as_slice()) {
+    match parse(alloc, text, found.as_slice()) {
         Ok(script) => Ok(script),
         Err(fault) => Err(NoScript::Grammar(fault)),
     }

@@ -26,11 +26,10 @@ use tj_base::{CellId, Items};
 use tj_chan::{ChanBody, ChatRow, TableChat, is_chat_table};
 use tj_eval::{ScriptBody, main_body};
 use tj_future::{CellWait, Polled, Watched};
-use tj_lex::{MAX_TEXT, tokens};
 use tj_ports::OpenGate;
 use tj_ready::{Pool, StealPool};
 use tj_run::{Left, RunFault, work_all};
-use tj_syntax::{Script, parse};
+use tj_syntax::{Script, script_in};
 use tj_words::{Fill, Laid, WSeat};
 
 /// What a future is given for cell 1, which polls in a thread of its own while the workers run. Where
@@ -97,13 +96,7 @@ fn told_beside<B: Polled, P: Pool, R: Wait + Threads + RandomSource + AllocGloba
 fn script(rt: &impl Abort, alloc: Global, text: &[u8]) -> Script
     ensures { (tokens : List Tok) × IsScript tokens (view.script result) }
 {
-    if text.len() > MAX_TEXT {
-        panic!(rt; "too long");
-    }
-    let Ok(list) = tokens(alloc, text) else {
-        panic!(rt; "no tokens");
-    };
-    match parse(alloc, list.as_slice()) {
+    match script_in(alloc, text) {
         Ok(script) => script,
         Err(_) => panic!(rt; "no script"),
     }

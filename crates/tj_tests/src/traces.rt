@@ -15,7 +15,7 @@ use tj_body::{Answer, Ask, Body};
 use tj_eval::{Sizes, placed_main};
 use tj_lex::{MAX_TEXT, Place, tokens};
 use tj_mean::Ending;
-use tj_syntax::{Script, ScriptPlaces, parse, places};
+use tj_syntax::{Script, ScriptPlaces, places, script_in};
 use tj_trace::{Maker, TraceLine, TraceLines, ask_spot, line_of, maker_of, owner_of, spot, trace};
 
 /// Forks in a loop, a cycle of two, a refused fork, and letters of two bytes.
@@ -213,13 +213,7 @@ fn is_found(rt: &impl Abort, alloc: Global, lines: &[TraceLine], thing: &Thing) 
 fn script(rt: &impl Abort, alloc: Global, text: &str) -> Script
     ensures { (tokens : List Tok) × IsScript tokens (view.script result) }
 {
-    if text.len() > MAX_TEXT {
-        panic!(rt; "too long");
-    }
-    let Ok(list) = tokens(alloc, text.as_bytes()) else {
-        panic!(rt; "no tokens");
-    };
-    match parse(alloc, list.as_slice()) {
+    match script_in(alloc, text.as_bytes()) {
         Ok(script) => script,
         Err(_) => panic!(rt; "no script"),
     }

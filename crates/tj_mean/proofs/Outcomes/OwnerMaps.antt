@@ -2,7 +2,6 @@
 use Rattle.std.proofs.Common.{◌≡◌, ℕ, zero, suc, ◌+◌, ◌<◌, Bool, true, false, cond, ◌||◌, List, [], ◌∷◌}
 use Rattle.std.proofs.Common.{Option, Some, None, map, take, refl, sym, ap, ◌∙◌, subst, arith}
 use Rattle.std.specs.Prelude.{◌↔◌, slice_get, IfSome, IsNone}
-use Rattle.std.specs.BTreeMap.{BTreeMap}
 use native.Mathlib.Decide.{ℕ_discrete}
 use mathlib.Core.Logic.{dite}
 use Rattle.tj_base.specs.ForkOrder.{Name}
@@ -10,6 +9,7 @@ use Rattle.tj_body.specs.Names.{has}
 use Rattle.tj_mean.specs.Inner.Owners.{AreOwners, owner_in}
 use Rattle.tj_mean.specs.Outcomes.{AreApart, Ascend, owned_by}
 use Rattle.tj_mean.specs.WaitIndexes.{LeadsTo}
+use Rattle.tj_mean.specs.declared.name_map.NameMap.{NameMap}
 use Rattle.tj_mean.specs.declared.outcome.Ending.TheVariants as ending
 use Rattle.tj_mean.specs.declared.stopped.Stopped.{Stopped}
 use Rattle.tj_mean.proofs.Lists.Elements.{some_is}
@@ -38,14 +38,14 @@ taken_get (y ∷ ys) (suc n) zero x l e = e
 taken_get (y ∷ ys) (suc n) (suc p) x l e = taken_get ys n p x (omega arith) e
 
 -- no task owns a cell
-pub owners_none : (m : BTreeMap (List ℕ) ℕ) → ((q : Name) → owner_in m q ≡ None) → AreOwners [] m
+pub owners_none : (m : NameMap ℕ) → ((q : Name) → owner_in m q ≡ None) → AreOwners [] m
 owners_none m none = record {
   owns = λ q p e. let z : None ≡ Some p = sym (none q) ∙ e in absurd (cc);
   none = λ q e p s g. absurd (cc);
 }
 
 -- one task more
-pub owners_more : (tasks : List Stopped) (i : ℕ) (t : Stopped) (m n : BTreeMap (List ℕ) ℕ) → slice_get tasks i ≡ Some t
+pub owners_more : (tasks : List Stopped) (i : ℕ) (t : Stopped) (m n : NameMap ℕ) → slice_get tasks i ≡ Some t
     → AreOwners (take i tasks) m
     → ((q : Name) → owner_in n q ≡ cond (has q (owned_by t)) (Some i) (owner_in m q))
     → AreOwners (take (i + 1) tasks) n
@@ -84,7 +84,7 @@ OwnsAt tasks q p = (s : Stopped) × (slice_get tasks p ≡ Some s) × (has q (ow
 
 -- a task leads to the owner of the cell that it waits for
 pub owner_leads : (tasks : List Stopped) → AreApart tasks → Ascend (map (λ (s : Stopped). s.line.name) tasks)
-    → (m : BTreeMap (List ℕ) ℕ) → AreOwners tasks m → (t : Stopped) (q : Name) (o : Option ℕ)
+    → (m : NameMap ℕ) → AreOwners tasks m → (t : Stopped) (q : Name) (o : Option ℕ)
     → t.line.ending ≡ ending.Waits q → o ≡ owner_in m q → (p : ℕ) → (o ≡ Some p) ↔ LeadsTo tasks t p
 owner_leads tasks apart in_order m are t q o w e =
     led tasks apart in_order t q o w (subst (λ x. IfSome x (OwnsAt tasks q)) (sym e) (found (owner_in m q) refl))

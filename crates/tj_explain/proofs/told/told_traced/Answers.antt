@@ -1,10 +1,11 @@
-use Rattle.std.proofs.Common.{ap, subst, sym, ◌∙◌}
+use Rattle.std.proofs.Common.{◌≡◌, ap, map, subst, sym, ◌∙◌}
 use Rattle.tj_command.specs.Statuses.{status_of}
 use Rattle.tj_syntax.specs.PlacesOf as places
 use Rattle.tj_syntax.specs.View as view
 use Rattle.tj_trace.specs.Logs.{logged_program}
 use Rattle.tj_trace.specs.Traces.{AreTraced}
 use Rattle.tj_explain.proofs.ToldInputs.{ended_told}
+use Rattle.tj_explain.specs.Scenes.{statements_of, view_table}
 use Rattle.tj_explain.proofs.told.told_traced.Goals as goal
 
 -- the lines of a trace are in name order
@@ -20,8 +21,12 @@ returns c =
     let limits = c.args.command.limits in
     let traced = subst (AreTraced (logged_program limits.strict c.args.root.now) limits.cells) (sym c.items.ensures)
     c.in-Ok.ensures.traced in
+    let table = view_table (map (λ d. map (λ q. q.now) d.items) c.as_slice.result.now) in
+    let same = c.as_slice.ensures.value in
+    let made = c.in_ok-statements.ensures in
+    let listed : table ≡ statements_of (view.script c.args.script.now) = cc in
     ended_told c.args.command c.args.text.now (view.script c.args.script.now) c.args.tokens.now c.args.root.now
     c.args.outcome.now
-    c.items.result.now (places.view c.in_ok-places.places) c.status_of.result c.in_ok-why_text.field-0.items
-    c.requires.fits c.requires.outcome traced c.in_ok-places.ensures
+    c.items.result.now table (places.view c.in_ok-places.places) c.status_of.result c.in_ok-why_text.field-0.items
+    c.requires.fits c.requires.outcome traced listed c.in_ok-places.ensures
     (c.status_of.ensures ∙ ap status_of c.marked.ensures) c.in_ok-why_text.ensures

@@ -1,13 +1,9 @@
-use Rattle.std.proofs.Common.{Some, cond, ap, sym, ◌∙◌}
-use Rattle.std.specs.Cmp.Lexicographic.{texts_ties, nat_list_eq_equiv}
+use Rattle.std.proofs.Common.{Some, cond, ap, ◌∙◌}
 use Rattle.tj_body.specs.Names.{same}
 use Rattle.tj_mean.specs.Inner.Owners.{owner_in}
 use Rattle.tj_mean.proofs.owners.enter.Goals as goal
 
 pub returns : goal.returns
 returns c q =
-    let x = c.args.cell.now in
-    c.in_ok-insert.ensures.updates.0 q
-    ∙ ap (λ t. cond t (Some c.args.index) (owner_in c.args.owners.now q))
-    (sym (nat_list_eq_equiv.symm q c.in_ok-copy.copy ∙ texts_ties c.in_ok-copy.copy q))
+    c.in_ok-put.ensures q
     ∙ ap (λ y. cond (same q y) (Some c.args.index) (owner_in c.args.owners.now q)) c.in_ok-copy.ensures

@@ -1,9 +1,5 @@
-use Rattle.std.proofs.Common.{◌+◌, ◌-◌, ◌<◌, Bool, sym, ap, subst, ◌∙◌, arith}
+use Rattle.std.proofs.Common.{◌+◌, ◌-◌, ◌<◌, Bool, sym, subst, ◌∙◌, arith}
 use Rattle.std.proofs.lemmas.Result.{err_from_is_err_and}
-use Rattle.std.specs.Cmp.Lexicographic.{slice_cmp}
-use Rattle.std.specs.Ordering.{nat_cmp}
-use Rattle.std.specs.BTreeMap.{is_at}
-use Rattle.std.specs.Map.{lookup}
 use Rattle.tj_body.specs.Points.{IsIn, HasStopped, weight}
 use Rattle.tj_body.specs.Programs.{Program, AreLawful, program_of}
 use Rattle.tj_body.specs.declared.point.Point.{Point}
@@ -29,7 +25,7 @@ loop-at-init g c =
     let some = c.requires.cells.0 in
     begins (program g c.args.strict c.args.root.now) c.args.cells (assignment_in c.new-given.result)
     c.in_ok-points.points.items (c.args.cells - 1)
-    (λ q. ap (λ es. lookup (is_at (slice_cmp nat_cmp q)) es) c.new-given.ensures.empty) c.in_ok-points.ensures
+    c.new-given.ensures c.in_ok-points.ensures
     (omega arith)
 
 pub overflow_add-most : goal.overflow_add-most

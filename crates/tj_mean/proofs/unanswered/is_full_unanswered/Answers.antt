@@ -1,9 +1,4 @@
-use Rattle.std.proofs.Common.{◌-◌, Bool, ap, arith}
-use Rattle.std.specs.Cmp.Lexicographic.{slice_cmp}
-use Rattle.std.specs.Ordering.{nat_cmp}
-use Rattle.std.specs.BTreeMap.{is_at}
-use Rattle.std.specs.Map.{lookup}
-use Rattle.tj_base.specs.ForkOrder.{Name}
+use Rattle.std.proofs.Common.{◌-◌, Bool, arith}
 use Rattle.tj_body.specs.Programs.{Program, AreLawful, program_of}
 use Rattle.tj_body.proofs.Proper.{root_proper}
 use Rattle.tj_mean.specs.Inner.Assignments.{assignment_in}
@@ -39,8 +34,7 @@ returns-in-Err-Full g c =
     let f = c.in-Err-Full.ensures.full c.in-Err-Full.field-0-is in
     λ _. unanswered_full p (lawful g p.rules.strict p.root) (root_proper p c.requires.root) c.args.cells
     c.loop-task.tasks.items c.loop-task.left c.loop-task.invariant c.in-Some.task c.pop_front.new.self.items
-    c.in-Some.ensures.items c.in_ok-p.p c.in_ok-p.ensures (assignment_in c.new-none.result)
-    (λ (q : Name). ap (λ es. lookup (is_at (slice_cmp nat_cmp q)) es) c.new-none.ensures.empty)
+    c.in-Some.ensures.items c.in_ok-p.p c.in_ok-p.ensures (assignment_in c.new-none.result) c.new-none.ensures
     c.go_on.new.p f.0 f.1
 
 pub loop-task-smaller : goal.loop-task-smaller
@@ -48,8 +42,7 @@ loop-task-smaller g c =
     let p = program g c.args.strict c.args.root.now in
     unanswered_falls p (lawful g p.rules.strict p.root) (root_proper p c.requires.root) c.args.cells
     c.loop-task.tasks.items c.loop-task.left c.loop-task.invariant c.in-Some.task c.pop_front.new.self.items
-    c.in-Some.ensures.items c.in_ok-p.p c.in_ok-p.ensures (assignment_in c.new-none.result)
-    (λ (q : Name). ap (λ es. lookup (is_at (slice_cmp nat_cmp q)) es) c.new-none.ensures.empty)
+    c.in-Some.ensures.items c.in_ok-p.p c.in_ok-p.ensures (assignment_in c.new-none.result) c.new-none.ensures
     c.go_on.new.p c.in-Ok.ensures.reached c.children_of-children.result.items c.children_of-children.ensures
     c.add_all.new.tasks.items c.in_ok-add_all.ensures c.in-Ok.ensures.fits c.in-Ok.ensures.falls
 
@@ -58,7 +51,6 @@ loop-task-preserved g c =
     let p = program g c.args.strict c.args.root.now in
     unanswered_next p (lawful g p.rules.strict p.root) (root_proper p c.requires.root) c.args.cells
     c.loop-task.tasks.items c.loop-task.left c.loop-task.invariant c.in-Some.task c.pop_front.new.self.items
-    c.in-Some.ensures.items c.in_ok-p.p c.in_ok-p.ensures (assignment_in c.new-none.result)
-    (λ (q : Name). ap (λ es. lookup (is_at (slice_cmp nat_cmp q)) es) c.new-none.ensures.empty)
+    c.in-Some.ensures.items c.in_ok-p.p c.in_ok-p.ensures (assignment_in c.new-none.result) c.new-none.ensures
     c.go_on.new.p c.in-Ok.ensures.reached c.children_of-children.result.items c.children_of-children.ensures
     c.add_all.new.tasks.items c.in_ok-add_all.ensures c.in-Ok.ensures.fits

@@ -1,7 +1,10 @@
 -- What is refused has a first fault.
-use Rattle.std.proofs.Common.{◌≡◌, inl, inr, ⊎_elim, refl, ap, sym, ◌∙◌, subst, [], ◌∷◌, ◌++◌, List, arith, length}
+use Rattle.std.proofs.Common.{◌≡◌, ℕ, inl, inr, ⊎_elim, refl, ap, sym, ◌∙◌, subst, [], ◌∷◌, ◌++◌, List, arith, length}
 use Rattle.std.proofs.Common.{length-append, take, ◌-◌, map}
+use Rattle.std.proofs.lemmas.List.{length-map, take-map}
+use Rattle.tj_lex.specs.declared.shorts.Short.{Short}
 use Rattle.tj_lex.specs.declared.token.Token.{Token}
+use Rattle.tj_lex.specs.Shorts.{token_of, whole_tokens}
 use Rattle.tj_lex.specs.declared.token.Tok.TheVariants as toks
 use Rattle.tj_syntax.specs.Faults.{EndsInEnd, IsFirstFault, IsScript, kinds_of}
 use Rattle.tj_syntax.specs.View as view
@@ -26,42 +29,61 @@ ended tokens e =
     ∙ take-front e.front (e.last ∷ []) in
     e.whole ∙ ap (λ ts. ts ++ e.last ∷ []) (sym before)
 
+-- the same of tokens that short ones stand for
+whole_ended : (text : List ℕ) (shorts : List Short) → (e : EndsInEnd (whole_tokens text shorts))
+    → whole_tokens text shorts ≡ whole_tokens text (take (length shorts - 1) shorts) ++ e.last ∷ []
+whole_ended text shorts e =
+    let whole = whole_tokens text shorts in
+    let front : take (length whole - 1) whole ≡ whole_tokens text (take (length shorts - 1) shorts) =
+    ap (λ n. take (n - 1) whole) (length-map shorts (token_of text))
+    ∙ take-map (token_of text) (length shorts - 1) shorts in
+    ended whole e ∙ ap (λ ts. ts ++ e.last ∷ []) front
+
 pub returns-in-Err-clause-fault : goal.returns-in-Err-clause-fault
 returns-in-Err-clause-fault c =
-    let tokens = c.args.tokens.now in
-    let end = c.requires in
+    let tokens = whole_tokens c.args.text.now c.args.tokens.now in
+    let end = c.requires.end in
     ⊎_elim
     (λ o. inl (c.fault.ensures end.front [] end.last end.whole (subst (λ s. AreLeft s 0) (sym o) tt) ∙ ap
     (λ s. fault_at s end.last.at) o))
     (λ first.
     let at : IsFirstStop tokens c.in-Err.stop = subst
-    (λ ts. IsFirstStop ts c.in-Err.stop) (sym (ended tokens end)) (first end.last end.is_end) in
+    (λ ts. IsFirstStop ts c.in-Err.stop) (sym (whole_ended c.args.text.now c.args.tokens.now end)) (first end.last end.is_end) in
     inr (subst (λ f. IsFirstFault tokens f) (sym (c.fault.ensures at.front at.back at.token at.whole at.left))
     at.is_first))
     c.in-Err.ensures.fault
 
 -- the kinds of the tokens before the end, and the end
-ended_kinds : (tokens : List Token) → EndsInEnd tokens
-    → kinds_of tokens ≡ kinds_of (take (length tokens - 1) tokens) ++ toks.End ∷ []
-ended_kinds tokens e = ap kinds_of (ended tokens e) ∙ kinds_with_end (take (length tokens - 1) tokens) e.last e.is_end
+ended_kinds : (text : List ℕ) (shorts : List Short) → EndsInEnd (whole_tokens text shorts)
+    → kinds_of (whole_tokens text shorts)
+    ≡ kinds_of (whole_tokens text (take (length shorts - 1) shorts)) ++ toks.End ∷ []
+ended_kinds text shorts e =
+    ap kinds_of (whole_ended text shorts e)
+    ∙ kinds_with_end (whole_tokens text (take (length shorts - 1) shorts)) e.last e.is_end
 
 -- what has a first fault is no script
 pub returns-in-Err-clause-err : goal.returns-in-Err-clause-err
 returns-in-Err-clause-err c =
+    let tokens = whole_tokens c.args.text.now c.args.tokens.now in
     ⊎_elim inl
-    (λ first. inr (λ script is. scripts_have_no_fault c.args.tokens.now script c.fault.result c.requires is first))
+    (λ first. inr (λ script is. scripts_have_no_fault tokens script c.fault.result c.requires.end is first))
     (returns-in-Err-clause-fault c)
+
+pub returns-in-Ok-clause-ok : goal.returns-in-Ok-clause-ok
+returns-in-Ok-clause-ok c =
+    subst (λ kinds. IsScript kinds (map view.task c.in-Ok.tasks.items))
+    (sym (ended_kinds c.args.text.now c.args.tokens.now c.requires.end)) c.in-Ok.ensures.ok
 
 pub returns-in-Ok-clause-listed : goal.returns-in-Ok-clause-listed
 returns-in-Ok-clause-listed c script given stand is has =
-    one_script (kinds_of c.args.tokens.now) (map view.task c.in-Ok.tasks.items) script
-    (subst (λ ks. IsScript ks (map view.task c.in-Ok.tasks.items))
-    (sym (ended_kinds c.args.tokens.now c.requires)) c.in-Ok.ensures.ok)
-    (listed_script script given c.args.tokens.now stand is has)
+    let tokens = whole_tokens c.args.text.now c.args.tokens.now in
+    one_script (kinds_of tokens) (map view.task c.in-Ok.tasks.items) script (returns-in-Ok-clause-ok c)
+    (listed_script script given tokens stand is has)
 
 pub returns-in-Err-clause-listed : goal.returns-in-Err-clause-listed
 returns-in-Err-clause-listed c script given stand is has =
+    let tokens = whole_tokens c.args.text.now c.args.tokens.now in
     ⊎_elim (λ o. o)
-    (λ first. absurd (scripts_have_no_fault c.args.tokens.now script c.fault.result c.requires
-    (listed_script script given c.args.tokens.now stand is has) first))
+    (λ first. absurd (scripts_have_no_fault tokens script c.fault.result c.requires.end
+    (listed_script script given tokens stand is has) first))
     (returns-in-Err-clause-fault c)

@@ -1,4 +1,5 @@
-use Rattle.std.proofs.Common.{inr, length, subst, sym, ◌∙◌}
+use Rattle.std.proofs.Common.{inr, length, ap, subst, sym, ◌∙◌}
+use Rattle.tj_lex.specs.Shorts.{whole_tokens}
 use Rattle.tj_lex.specs.Tokens.{AreTokens}
 use Rattle.tj_syntax.specs.ScriptTexts.{most_bytes}
 use Rattle.tj_syntax.proofs.ScriptTexts.{as_long}
@@ -20,10 +21,15 @@ pub returns-in-Err-clause-refused : goal.returns-in-Err-clause-refused
 returns-in-Err-clause-refused c = token_refused c.args.text.now c.in-Err.fault c.in-Err.ensures.only_tokens
 
 pub returns-clause-fault : goal.returns-clause-fault
-returns-clause-fault c = grammar_first c.args.text.now c.as_slice.result.now c.in-Err-parse.fault
-    c.if-text-gt-MAX_TEXT.false
-    (subst (AreTokens c.args.text.now) (sym c.as_slice.ensures.value) c.in-Ok.ensures.ok) c.in-Err-parse.ensures.fault
+returns-clause-fault c =
+    let text = c.args.text.now in
+    grammar_first text (whole_tokens text c.as_slice.result.now) c.in-Err-parse.fault c.if-text-gt-MAX_TEXT.false
+    (subst (λ ts. AreTokens text (whole_tokens text ts)) (sym c.as_slice.ensures.value) c.in-Ok.ensures.ok)
+    c.in-Err-parse.ensures.fault
 
 pub returns-clause-refused : goal.returns-clause-refused
-returns-clause-refused c = grammar_refused c.args.text.now c.as_slice.result.now c.in-Err-parse.fault
-    (λ all has. c.as_slice.ensures.value ∙ c.in-Ok.ensures.only_tokens all has) c.in-Err-parse.ensures.err
+returns-clause-refused c =
+    let text = c.args.text.now in
+    grammar_refused text (whole_tokens text c.as_slice.result.now) c.in-Err-parse.fault
+    (λ all has. ap (whole_tokens text) c.as_slice.ensures.value ∙ c.in-Ok.ensures.only_tokens all has)
+    c.in-Err-parse.ensures.err

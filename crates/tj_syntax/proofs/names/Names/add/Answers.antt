@@ -9,10 +9,9 @@ use Rattle.tj_syntax.proofs.names.Names.add.Goals as goal
 pub invariant_of-self-in-Ok : goal.invariant_of-self-in-Ok
 invariant_of-self-in-Ok c =
     let old = c.self.inside.list.items in
-    let y = c.bytes-2.result.now in
+    let y = c.args.name.now in
     let updated = btree_map_updates_str y c.self.inside.numbers c.insert.new.self _ c.in-Ok.ensures.updates in
     let count : c.len-number.result ≡ length old = grind (arith, common_steps) in
-    let same : y ≡ c.args.name.now = grind (arith, common_steps) in
     let pushed : c.push.new.self.items ≡ old ++ y ∷ [] = grind (arith, common_steps) in
     let absent : index_of old y ≡ None = grind (arith, common_steps) in
     record {

@@ -1,12 +1,13 @@
 -- The loop over the pairs reads what is left, and a unary is read by its first token.
-use Rattle.std.proofs.Common.{◌∙◌, sym, refl, rules, arith, map}
+use Rattle.std.proofs.Common.{◌≡◌, Err, ◌∙◌, sym, refl, rules, arith, map}
 use Rattle.std.proofs.lemmas.Grind.{common_steps}
 use Rattle.std.proofs.lemmas.List.{map-append}
 use Rattle.tj_syntax.specs.declared.expr.Expr.{the_lemmas}
 use Rattle.tj_syntax.specs.Inner.State.{input_of}
-use Rattle.tj_syntax.specs.View.{pair}
+use Rattle.tj_syntax.specs.View.{expression, pair}
 use Rattle.tj_syntax.specs.Inner.Reading.{pairs, pairs_from, operand}
 use Rattle.tj_syntax.proofs.Alone.{alone}
+use Rattle.tj_syntax.proofs.PairStops.{pair_stops, stops_alike}
 use Rattle.tj_syntax.proofs.Repeats.{one_more, no_more}
 use Rattle.tj_syntax.proofs.Unrolls.{unary-is}
 use Rattle.tj_syntax.proofs.parser.Parser.+expression.Goals as goal
@@ -29,12 +30,18 @@ pairs-returns-in_default t c =
     first_of (search rules, grind (arith, common_steps))
 
 pub pairs-returns-in_err-y : goal.pairs-returns-in_err-y
-unfolding pairs_from
 pairs-returns-in_err-y t c =
-    let e = one_more (λ n. pairs_from (operand c.args.room c.args.level) c.args.level n (map pair
-    c.loop-repeat.found.items) (input_of c.loop-repeat.self)) c.left-repeat-end.result c.loop-repeat._repeat
+    let level = c.args.level in
+    let item = operand c.args.room level in
+    let found = map pair c.loop-repeat.found.items in
+    let i = input_of c.loop-repeat.self in
+    let e = one_more (λ n. pairs_from item level n found i) c.left-repeat-end.result c.loop-repeat._repeat
     c.loop-repeat-test.true c.loop-repeat.invariant in
-    first_of (search rules, grind (arith, common_steps))
+    let same : c.from_residual.result ≡ Err c.in_err-y.field-0.0 = first_of
+    (search rules, grind (arith, common_steps)) in
+    stops_alike expression _ _ _ _ c.in_err-y.field-0.0 _ same c.in_err-y.ensures
+    (λ stops. e ∙ pair_stops item level _ found i _ _ _ c.in-Some.op _ c.peek.ensures c.operator.ensures c.in-Some.is
+    c.skip.ensures stops)
 
 pub pairs-loop-repeat-preserved : goal.pairs-loop-repeat-preserved
 unfolding pairs_from

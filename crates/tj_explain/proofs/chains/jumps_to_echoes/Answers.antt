@@ -1,9 +1,0 @@
-use Rattle.std.proofs.lemmas.Result.{IfOk-weaker}
-use Rattle.tj_explain.specs.Forests.{echo_before}
-use Rattle.tj_explain.proofs.chains.jumps_to_echoes.Goals as goal
-
-pub returns : goal.returns
-returns c =
-    let lines = c.args.lookups.now.lines.now in
-    IfOk-weaker c.doubled_often.result _ _ (λ jumps all. all lines (echo_before lines) c.in_ok-single.ensures)
-    c.doubled_often.ensures
