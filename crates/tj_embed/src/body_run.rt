@@ -7,6 +7,8 @@ ghost use Rattle.tj_embed.specs.Limits.{AreLimits};
 ghost use Rattle.tj_embed.specs.Reports.{IsReportOfMeaning};
 ghost use Rattle.tj_mean.specs.Outcomes.{IsOutcome};
 ghost use Rattle.tj_run.specs.Runs.{RestsAt};
+ghost use Rattle.tj_words.specs.AtRest.RestMeaning.{HaveMeaning};
+ghost use Rattle.tj_words.specs.AtRest.RestValues.{AreValuesOfMeaning};
 
 use crate::options::Options;
 use std::alloc::Global;
@@ -84,6 +86,12 @@ pub fn run_to_rest<B: Body, R: Wait + Threads + Sync>(
     // cycle of waits has a member that has alarmed, and each task that has alarmed is on one.
     ensures rest { IfOk result (RestsAt
         (program_of B.places B.awaits B.left B.asks B.then) root options.cells options.strict) }
+    // So they are, by the names of the table itself: the words and the records,
+    ensures meaning { IfOk result (λ r. HaveMeaning (program_of B.places B.awaits B.left B.asks
+        B.then r.strict r.root) r.limit r.cells r.records) }
+    // and the values.
+    ensures values { IfOk result (λ r. AreValuesOfMeaning (program_of B.places B.awaits B.left
+        B.asks B.then r.strict r.root) r.limit r.cells r.words) }
 
     // Where the run comes to rest, the meaning isn't full, and Full comes only where it is.
     ensures fits { let p = program_of B.places B.awaits B.left B.asks B.then options.strict root
@@ -91,5 +99,6 @@ pub fn run_to_rest<B: Body, R: Wait + Threads + Sync>(
     ensures full { let p = program_of B.places B.awaits B.left B.asks B.then options.strict root
         in IfErr result (λ fault. fault ≡ RunFault.Full → IsFull p options.cells) }
 {
-    options.run(rt, alloc, root)
+    let at_rest = options.run(rt, alloc, root)?;
+    Ok(at_rest)
 }

@@ -123,7 +123,8 @@ impl<'s> ScriptRun<'s> {
         ensures { IfOk result (IsOfName (script_program self.now.strict self.now.root)
             self.now.limit name.now) }
     {
-        value_named(alloc, &self.rest, name)
+        let became = value_named(alloc, &self.rest, name)?;
+        Ok(became)
     }
 
     /// What the words of the table show of its cells, at rest: each cycle of waits has a member that

@@ -9,7 +9,7 @@ mod watched;
 
 pub use beside::run_watched;
 pub use looks::{look_at, watch};
-pub use polls::{CellWait, Polled};
+pub use polls::{CellWait, Polled, PolledPlan, PolledTask};
 pub use watched::Watched;
 
 mod look_laws;

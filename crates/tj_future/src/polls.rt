@@ -4,6 +4,8 @@ ghost use Rattle.tj_log.specs.Shown.{SeatShown};
 ghost use Rattle.futures.specs.Poll.{IfReady, OnPending};
 ghost use Rattle.futures.specs.Task.{Covers, Keeps};
 ghost use Rattle.tj_body.specs.Programs.{program_of};
+ghost use Rattle.tj_task.specs.Replays.{replay_turn};
+ghost use Rattle.tj_task.specs.TaskBodies.{task_asks, task_awaits, task_left, task_places, task_then};
 ghost use Rattle.tj_words.specs.declared.record.Rec.{Rec};
 ghost use Rattle.tj_words.specs.declared.view.View.{View};
 ghost use Rattle.tj_words.specs.SeatViews.SeatSteps.{IsCellOf, IsSameSeat, IsSeatOf};
@@ -20,6 +22,7 @@ use tj_base::CellId;
 use tj_body::{Body, TableBody};
 use tj_chan::{ChanBody, TableChat};
 use tj_eval::ScriptBody;
+use tj_task::{Plan, Replay, Task, TaskBody};
 use tj_words::{Laid, WSeat};
 
 /// A body whose tables may be polled. An `impl` calls `look_at`, whose clauses these are. (A poll is
@@ -59,6 +62,74 @@ impl<'s> Polled for ScriptBody<'s> {
 impl<'s> Polled for ChanBody<TableChat<'s>> {
     fn look(laid: &Laid<Self>, seat: &mut WSeat<Self>, p: CellId) -> Option<Watched> {
         look_at(laid, seat, p)
+    }
+}
+
+/// A task whose tables may be polled. An `impl` calls `look_at`, as one of `Polled` does, which no
+/// crate but this one can write for a `TaskBody`.
+pub trait PolledTask: Task {
+    /// One look at cell `p`, as `look_at` makes it.
+    fn look(
+        laid: &Laid<TaskBody<Self>>,
+        seat: &mut WSeat<TaskBody<Self>>,
+        p: CellId,
+    ) -> Option<Watched>
+        requires table { IsSeatOf laid.now seat.old }
+        requires cell { IsCellOf laid.now p.0 }
+        requires idle { IsIdle seat.old.me.0 }
+        requires slots { seat.old.me.1 ≡ [] }
+        // A look by the task's own `impl`: its clauses are those of `look_at`.
+        ensures seat { IsSameSeat seat.old seat.new }
+        ensures idle { IsIdle seat.new.me.0 }
+        ensures slots { seat.new.me.1 ≡ [] }
+        ensures lot { seat.new.me.0.lot ≡ seat.old.me.0.lot }
+        ensures none { result ≡ None → GoesOn (program_of task_places task_awaits task_left
+            (task_asks Self.turn) (task_then Self.turn)) p.0 seat.old.me.0 seat.new.me.0 }
+        ensures some { IfSome result (λ watched. Answers (program_of task_places task_awaits
+            task_left (task_asks Self.turn) (task_then Self.turn)) laid.now.cells p.0 watched
+            seat.old.me.0 seat.new.me.0) }
+        ensures log { MakesLook p.0 result seat.old seat.new };
+}
+
+/// A plan whose tables may be polled. An `impl` calls `look_at`, too.
+pub trait PolledPlan: Plan {
+    /// One look at cell `p`, as `look_at` makes it.
+    fn look(
+        laid: &Laid<TaskBody<Replay<Self>>>,
+        seat: &mut WSeat<TaskBody<Replay<Self>>>,
+        p: CellId,
+    ) -> Option<Watched>
+        requires table { IsSeatOf laid.now seat.old }
+        requires cell { IsCellOf laid.now p.0 }
+        requires idle { IsIdle seat.old.me.0 }
+        requires slots { seat.old.me.1 ≡ [] }
+        // A look by the plan's own `impl`: its clauses are those of `look_at`.
+        ensures seat { IsSameSeat seat.old seat.new }
+        ensures idle { IsIdle seat.new.me.0 }
+        ensures slots { seat.new.me.1 ≡ [] }
+        ensures lot { seat.new.me.0.lot ≡ seat.old.me.0.lot }
+        ensures none { result ≡ None → GoesOn (program_of task_places task_awaits task_left
+            (task_asks (replay_turn Self.asks)) (task_then (replay_turn Self.asks))) p.0
+            seat.old.me.0 seat.new.me.0 }
+        ensures some { IfSome result (λ watched. Answers (program_of task_places task_awaits
+            task_left (task_asks (replay_turn Self.asks)) (task_then (replay_turn Self.asks)))
+            laid.now.cells p.0 watched seat.old.me.0 seat.new.me.0) }
+        ensures log { MakesLook p.0 result seat.old seat.new };
+}
+
+impl<T: PolledPlan> PolledTask for Replay<T> {
+    fn look(
+        laid: &Laid<TaskBody<Self>>,
+        seat: &mut WSeat<TaskBody<Self>>,
+        p: CellId,
+    ) -> Option<Watched> {
+        T::look(laid, seat, p)
+    }
+}
+
+impl<T: PolledTask> Polled for TaskBody<T> {
+    fn look(laid: &Laid<Self>, seat: &mut WSeat<Self>, p: CellId) -> Option<Watched> {
+        T::look(laid, seat, p)
     }
 }
 

@@ -30,14 +30,9 @@ use Rattle.tj_words.proofs.Meaning.MeantCycles.{waiter_there, waits_meant}
 use Rattle.tj_words.proofs.Meaning.RestingCells.{owner_forth}
 use Rattle.tj_laws.proofs.MeantNames.{cycle_meant}
 use Rattle.tj_told.proofs.Loaded.{TurnsStand}
+use Rattle.tj_told.specs.EndedNews.{AreTurnsClosed}
 use Rattle.tj_told.specs.ToldLoads.{ComesBack, Turn}
 use Rattle.tj_told.specs.ToldLinks.{AreLinksOf, IsNamed}
-
--- by closed words the task of each turn waits for its cell, which the turn's owner owns
-abbrev pub AreTurnsClosed : List RestCell → List Turn → Type 0
-AreTurnsClosed shown [] = Unit {0}
-AreTurnsClosed shown (x ∷ xs) =
-    (closed.Waits shown x.task x.cell × closed.Owns shown x.owner x.cell) × AreTurnsClosed shown xs
 
 abbrev task_of : Turn → ℕ
 task_of x = x.task

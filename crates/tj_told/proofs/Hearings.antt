@@ -1,6 +1,6 @@
 -- What a listener has heard after one call more.
 use Rattle.std.proofs.Common.{◌≡◌, ◌≢◌, ◌⊎◌, ◌<◌, ℕ, Bool, true, false, ◌&&◌, ◌||◌, ◌+◌, List, [], ◌∷◌, ◌++◌}
-use Rattle.std.proofs.Common.{Result, Ok, Err, IfOk, IfErr}
+use Rattle.std.proofs.Common.{None, Some, Result, Ok, Err, IfOk, IfErr}
 use Rattle.std.proofs.Common.{zero, suc, ◌≤◌, arith, length, get_or, take, refl, sym, ap, ◌∙◌, subst, inl, inr}
 use Rattle.std.proofs.lemmas.List.{take_more}
 use Rattle.std.specs.List.{list_any}
@@ -13,6 +13,8 @@ use Rattle.tj_mean.specs.declared.outcome.Link.{Link}
 use Rattle.tj_mean.specs.declared.outcome.Outcome.{Outcome}
 use Rattle.tj_told.specs.Hearing.{HasHeard, Hears, IsStoppedBy}
 use Rattle.tj_told.specs.ToldNews.{AddsTo, AreApart, AreTold, IsBrokenIn, IsCycleOf, same_cycle, same_link, tells_cycle}
+use Rattle.tj_told.specs.ToldNews.{is_value}
+use Rattle.tj_base.specs.declared.value.Shown.{Shown}
 use Rattle.tj_told.specs.declared.listener.Goes.{Goes}
 use Rattle.tj_told.specs.declared.listener.Goes.TheVariants as goes
 use Rattle.tj_told.specs.declared.news.News.{News}
@@ -49,6 +51,7 @@ cycle_self (x ∷ xs) = ap (λ z. z && same_cycle xs xs) (link_self x) ∙ cycle
 told_is : (c : List Link) (n : News) → tells_cycle c n ≡ true → n ≡ news.Cycle c
 told_is c (news.Cycle d) e = ap (λ z. news.Cycle z) (sym (cycle_is c d e))
 told_is c (news.Broken q) e = absurd (cc)
+told_is c (news.Value q v) e = absurd (cc)
 
 -- the test tells whether a cycle is among what was told
 pub is_in : (c : List Link) (ns : List News) → list_any (tells_cycle c) ns ≡ true → IsIn (news.Cycle c) ns
@@ -212,12 +215,42 @@ only_so_far early told now cs c i a only d j = by (a.only d j)
 abbrev cycle_in : News → List Link → List Link
 cycle_in (news.Cycle c) d = c
 cycle_in (news.Broken q) d = d
+cycle_in (news.Value q v) d = d
 
 pub same_told : (c d : List Link) → news.Cycle c ≡ news.Cycle d → c ≡ d
 same_told c d e = ap (λ n. cycle_in n c) e
 
 pub not_cycle : (q : Name) (d : List Link) → news.Broken q ≡ news.Cycle d → ⊥
 not_cycle q d e = absurd (cc)
+
+-- a value is neither
+pub not_value : (q : Name) (v : Shown) (d : List Link) → news.Value q v ≡ news.Cycle d → ⊥
+not_value q v d e = absurd (cc)
+
+pub value_not_broken : (q p : Name) (v : Shown) → news.Value q v ≡ news.Broken p → ⊥
+value_not_broken q p v e = absurd (cc)
+
+-- where no value was told, this one wasn't
+pub value_new : (q : Name) (v : Shown) (ns : List News) → list_any is_value ns ≡ false → ¬ IsIn (news.Value q v) ns
+value_new q v [] e i = absurd i
+value_new q v (n ∷ ns) e i = by n (is_value n) refl e i (λ f j. value_new q v ns f j)
+  where
+    by : (m : News) (b : Bool) → is_value m ≡ b → (b || list_any is_value ns) ≡ false
+        → (news.Value q v ≡ m) ⊎ IsIn (news.Value q v) ns
+        → (list_any is_value ns ≡ false → IsIn (news.Value q v) ns → ⊥) → ⊥
+    by m true f g j more = absurd (cc)
+    by m false f g (inl h) more = let z : true ≡ false = ap is_value h ∙ f in absurd (cc)
+    by m false f g (inr j) more = more g j
+
+-- a value that was told in the end was told early, since at rest only cycles are told
+pub value_early : (early told : List News) (cycles : List (List Link))
+    → ((d : News) → IsIn d told → IsIn d early ⊎ IsCycleOf cycles d) → (q : Name) (v : Shown)
+    → IsIn (news.Value q v) told → IsIn (news.Value q v) early
+value_early early told cycles only q v i = by (only (news.Value q v) i)
+  where
+    by : IsIn (news.Value q v) early ⊎ IsCycleOf cycles (news.Value q v) → IsIn (news.Value q v) early
+    by (inl j) = j
+    by (inr k) = absurd (not_value q v k.0 k.2)
 
 -- what was told early is so by the outcome, and later only its cycles were told, and all of them
 pub all_told : (early told : List News) (o : Outcome) → ((c : List Link) → IsIn (news.Cycle c) early → IsIn c o.cycles)
@@ -250,3 +283,7 @@ pub only_added : (n : News) (before now : List News) (r : Result Goes Oom)
     → (d ≡ n) ⊎ IsIn d before
 only_added n before now (Ok x) h k d i = in_snoc d n before (subst (IsIn d) h i)
 only_added n before now (Err x) h k d i = inr (subst (IsIn d) k i)
+
+-- nothing is watched where there is no name
+pub some_none : (q : Name) → None ≡ Some q → ⊥
+some_none q e = absurd (cc)

@@ -13,3 +13,5 @@ pub mod LeastLinks
 pub mod KeptNews
 pub mod BrokenCells
 pub mod LoadedTags
+pub mod SeenValues
+pub mod EndedRounds

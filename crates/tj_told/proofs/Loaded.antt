@@ -20,7 +20,7 @@ use Rattle.tj_words.specs.declared.phase.Walk.TheVariants as walk
 use Rattle.tj_words.specs.declared.record.Rec.{Rec}
 use Rattle.tj_words.specs.declared.view.View.{View}
 use Rattle.tj_words.specs.CallLaws.LoggedRuns.{HasRun}
-use Rattle.tj_log.specs.Runs.{took_of}
+use Rattle.tj_log.specs.Runs.{log_of, took_of}
 use Rattle.tj_body.specs.Points.{IsIn}
 use Rattle.atomic_table.specs.Table.{State}
 use Rattle.tj_words.specs.declared.table.Key.{Key}
@@ -207,13 +207,21 @@ chained first t [] b = absurd b
 chained first t (x ∷ []) b = (b.0, tt)
 chained first t (x ∷ y ∷ ys) b = (b.0, chained first x.owner (y ∷ ys) b.2)
 
--- a round that the log of a seat has which was taken in stands at the end of the run
-pub round_stands : {B : Type 0} → EveryMoment B → (program : Bool → B → Program B) (key : Key B)
-    (s : State (Option (Rec B)) (View B)) (run : HasRun program key s) (j : ℕ) (log : List Entry)
-    → IsIn log (took_of j run.past) → (t : ℕ) (xs : List Turn) → HasRound t xs log → TurnsStand (contents_of s) xs
-round_stands {B} every program key s run j log i t xs r =
-    let took = run.taken j log i in
-    subst (λ (z : State (Option (Rec B)) (View B)). TurnsStand (contents_of z) xs) run.end
-    (loaded_stand program key took.0 every t r.cell r.way xs (chained t t xs r.back) run.first run.later run.moments
-    (part_of_steps program key took.0 (phase_load t (phase.Waiting r.cell r.way walk.Alarmed) ∷ loads_of xs)
-    (in_order log) run.first run.later run.moments r.loads took.1))
+-- a round whose loads are steps of some seat of the run stands at the end of the run
+module _ {B : Type 0} (every : EveryMoment B) (program : Bool → B → Program B) (key : Key B)
+    (s : State (Option (Rec B)) (View B)) (run : HasRun program key s) where
+  pub steps_stand : (j : ℕ) (log : List Entry) → AreStepsOf program key j (in_order log) run.first run.later run.moments
+      → (t : ℕ) (xs : List Turn) → HasRound t xs log → TurnsStand (contents_of s) xs
+  steps_stand j log made t xs r = subst (λ (z : State (Option (Rec B)) (View B)). TurnsStand (contents_of z) xs) run.end
+      (loaded_stand program key j every t r.cell r.way xs (chained t t xs r.back) run.first run.later run.moments
+      (part_of_steps program key j (phase_load t (phase.Waiting r.cell r.way walk.Alarmed) ∷ loads_of xs)
+      (in_order log) run.first run.later run.moments r.loads made))
+
+  -- so does a round that a log has which the seat has taken in
+  pub round_stands : (j : ℕ) (log : List Entry) → IsIn log (took_of j run.past) → (t : ℕ) (xs : List Turn)
+      → HasRound t xs log → TurnsStand (contents_of s) xs
+  round_stands j log i = let took = run.taken j log i in steps_stand took.0 log took.1
+
+  -- and one that its own log has
+  pub own_stands : (j : ℕ) (t : ℕ) (xs : List Turn) → HasRound t xs (log_of j run.past) → TurnsStand (contents_of s) xs
+  own_stands j = steps_stand j (log_of j run.past) (run.logs j)

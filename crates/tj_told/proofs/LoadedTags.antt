@@ -1,5 +1,5 @@
 -- What an observer's seat knows after a load of TAG.
-use Rattle.std.proofs.Common.{◌≡◌, ℕ, zero, suc, Bool, [], Option, refl, sym, ◌∙◌, subst, inl, inr}
+use Rattle.std.proofs.Common.{◌≡◌, ◌≢◌, ℕ, zero, suc, Bool, [], Option, refl, sym, ◌∙◌, subst, inl, inr}
 use Rattle.tj_body.specs.Programs.{Program}
 use Rattle.tj_body.specs.declared.point.Entry.TheVariants as entry
 use Rattle.tj_log.specs.Shown.{SeatShown}
@@ -42,3 +42,8 @@ module _ {B : Type 0} (program : Bool → B → Program B) (cells c n : ℕ) whe
         known = subst (KnowsCell c) (sym f.view) (inl refl, (f.reference, f.is));
         all = subst (λ (u : View B). AreCells cells u.born) (sym f.view) f.all;
       }
+
+  -- where it found TAG to be other than 0, the seat knows the cell
+  pub tag_known : (v w : View B) → SeesOnce program cells once.Tag c n v w → n ≢ 0 → KnowsCell c w
+  tag_known v w h e = let f = (h.1 e).0 in
+      subst (KnowsCell c) (sym f.view) (inl refl, (f.reference, f.is))

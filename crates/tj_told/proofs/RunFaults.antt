@@ -1,7 +1,6 @@
 -- Which faults a run has, by those of its parts.
-use Rattle.std.proofs.Common.{◌≡◌, ◌≢◌, ℕ, Bool, List, [], Result, Ok, Err, IfOk, refl, sym, subst}
+use Rattle.std.proofs.Common.{◌≡◌, ◌≢◌, ℕ, Bool, List, [], Result, Ok, Err, IfErr, IfOk, ap, refl, sym, subst, ◌∙◌}
 use Rattle.tj_body.specs.Programs.{Program}
-use Rattle.tj_mean.specs.declared.outcome.Outcome.{Outcome}
 use Rattle.std.proofs.Common.{Option}
 use Rattle.tj_log.specs.Shown.{SeatShown}
 use Rattle.tj_words.specs.AtRest.EndedRuns.{EndsRun}
@@ -15,15 +14,15 @@ use Rattle.tj_told.specs.declared.listener.Goes.{Goes}
 use Rattle.tj_told.specs.declared.news.News.{News}
 
 -- a stop that is passed on was a stop
-pub is_stop : (r : Result (Unit {0}) ToldFault) (f : ToldFault) → r ≡ Err f → (z : Result Outcome ToldFault)
+pub is_stop : {A : Type 0} (r : Result (Unit {0}) ToldFault) (f : ToldFault) → r ≡ Err f → (z : Result A ToldFault)
     → z ≡ Err f → z ≡ Err fault.Stopped → r ≡ Err fault.Stopped
 is_stop r fault.Full is z e stopped = absurd (cc)
 is_stop r fault.Oom is z e stopped = absurd (cc)
 is_stop r fault.Stopped is z e stopped = is
 
 -- a fault that isn't Stopped isn't it as another call's either
-pub no_stop : {A : Type 0} (r : Result A ToldFault) (f : ToldFault) → r ≡ Err f
-    → ((z : Result Outcome ToldFault) → z ≡ Err f → z ≢ Err fault.Stopped) → r ≢ Err fault.Stopped
+pub no_stop : {A C : Type 0} (r : Result A ToldFault) (f : ToldFault) → r ≡ Err f
+    → ((z : Result C ToldFault) → z ≡ Err f → z ≢ Err fault.Stopped) → r ≢ Err fault.Stopped
 no_stop r fault.Full is n stopped = absurd (cc)
 no_stop r fault.Oom is n stopped = absurd (cc)
 no_stop r fault.Stopped is n stopped = n (Err fault.Stopped) refl refl
@@ -46,6 +45,27 @@ pub both_ok : {A E : Type 0} {P Q R : A → Type 0} (r : Result A E) → ((x : A
     → IfOk r R
 both_ok (Ok x) f h k = f x h k
 both_ok (Err e) f h k = tt
+
+-- the fault of a result
+abbrev fault_in : {A : Type 0} → Result A ToldFault → ToldFault → ToldFault
+fault_in (Ok x) f = f
+fault_in (Err e) f = e
+
+-- one fault in another's place
+pub fault_is : {A C : Type 0} (r : Result C ToldFault) (f g : ToldFault) → r ≡ Err f → (z : Result A ToldFault)
+    → z ≡ Err f → z ≡ Err g → r ≡ Err g
+fault_is r f g is z e h = is ∙ ap (λ x. Err x) (ap (λ y. fault_in y f) (sym e ∙ h))
+
+pub full_no_stop : {A : Type 0} (r : Result A ToldFault) → r ≡ Err fault.Full → r ≢ Err fault.Stopped
+full_no_stop r e s = absurd (cc)
+
+-- and of a fault
+pub err_so : {A E : Type 0} {P Q : E → Type 0} (r : Result A E) → ((x : E) → P x → Q x) → IfErr r P → IfErr r Q
+err_so (Ok x) f h = tt
+err_so (Err e) f h = f e h
+
+pub of_err : {A E : Type 0} (P : E → Type 0) (r : Result A E) (e : E) → r ≡ Err e → IfErr r P → P e
+of_err {A} {E} P r e is h = let k : IfErr {T = A} (Err e) P = subst (λ (z : Result A E). IfErr z P) is h in k
 
 -- the end of a run of a table that was made so
 pub ends_on : {B : Type 0} (program : Bool → B → Program B) (l m : ℕ) (s t : Bool) (x y : B)

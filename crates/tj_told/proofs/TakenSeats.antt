@@ -4,7 +4,7 @@ use Rattle.std.proofs.Common.{◌≡◌, ℕ, ◌+◌, ◌-◌, ◌*◌, ◌≤�
 use denote.Param.Send.{IsSend, IsSync, sendable}
 use Rattle.std.proofs.Crossing.{crosses}
 use Rattle.std.specs.contracts.thread.Parker as parker
-use Rattle.tj_told.specs.contracts.looks.Looks as looks
+use Rattle.tj_told.specs.contracts.looks.Watch as watch
 use Rattle.tj_log.specs.Shown.{SeatShown}
 use Rattle.tj_body.specs.Programs.{Program}
 use Rattle.tj_words.specs.declared.record.Rec.{Rec}
@@ -15,7 +15,7 @@ use Rattle.tj_words.specs.SeatViews.Views.{IsIdle, both, left_half}
 use Rattle.tj_run.specs.declared.why.Why.{Why}
 use Rattle.tj_run.specs.declared.why.Left.{Left}
 use Rattle.tj_run.specs.declared.why.Left.TheVariants as leaving
-use Rattle.tj_run.specs.Leaving.{HasRested, HasStopped, Leaves}
+use Rattle.tj_run.specs.Leaving.{HasRested, Leaves}
 use Rattle.tj_run.proofs.Runs.TurnSteps.{stopped_since}
 
 -- two lots are the one that was split
@@ -38,23 +38,39 @@ module _ {B : Type 0} (program : Bool → B → Program B) (v : View B) (room : 
   pub leaves_taken : (worked other now : SeatShown (Option (Rec B)) (View B)) (how was : Left) (mine : View B)
       → mine ≡ left_half v → Leaves program was mine worked.me → other.me.0.lot ≡ least_lot
       → (how ≡ leaving.Rested → (was ≡ leaving.Rested) × (now.me ≡ (both worked.me.0 other.me.0, [])) × IsIdle now.me.0)
-      → ((cause : Why) → how ≡ leaving.Stopped cause → (now ≡ worked) × (was ≡ leaving.Stopped cause))
-      → Leaves program how v now.me
+      → ((cause : Why) → how ≡ leaving.Stopped cause → (now ≡ other) × (was ≡ leaving.Stopped cause))
+      → (me : SeatMe B) × Leaves program how v me × (how ≡ leaving.Rested → now.me ≡ me)
   leaves_taken worked other now leaving.Rested was mine m l lot r s =
-      let taken = r refl in
-      rested_taken worked.me other.me now.me
-      (subst (λ x. Leaves program x (left_half v) worked.me) taken.0
-      (subst (λ x. Leaves program was x worked.me) m l))
-      lot taken.1 taken.2
-  leaves_taken worked other now (leaving.Stopped cause) was mine m l lot r s = let x = s cause refl in
-      subst (λ (z : SeatShown (Option (Rec B)) (View B)). HasStopped program cause v z.me.0) (sym x.0)
-      (stopped_since program v (left_half v) worked.me.0 cause refl
-      (subst (λ z. Leaves program z (left_half v) worked.me) x.1
-      (subst (λ z. Leaves program was z worked.me) m l)))
+      let taken = r refl in (
+        now.me,
+        rested_taken worked.me other.me now.me
+            (subst (λ x. Leaves program x (left_half v) worked.me) taken.0
+            (subst (λ x. Leaves program was x worked.me) m l))
+            lot taken.1 taken.2,
+        λ e. refl,
+      )
+  leaves_taken worked other now (leaving.Stopped cause) was mine m l lot r s = let x = s cause refl in (
+    worked.me,
+    stopped_since program v (left_half v) worked.me.0 cause refl
+        (subst (λ z. Leaves program z (left_half v) worked.me) x.1 (subst (λ z. Leaves program was z worked.me) m l)),
+    λ e. absurd (let q : leaving.Stopped cause ≡ leaving.Rested = e in cc),
+  )
 
--- a bell may be shared, and an observer may be told how often it looks
+-- where workers are at rest, so is the seat that has their view
+pub rested_so : {B : Type 0} (program : Bool → B → Program B) (how : Left) (v w : View B) (me now : SeatMe B) → v ≡ w
+    → Leaves program how v me → (how ≡ leaving.Rested → now ≡ me) → how ≡ leaving.Rested → HasRested w now
+rested_so program how v w me now e l same is = subst (λ m. HasRested w m) (sym (same is))
+    (subst (λ z. HasRested z me) e (subst (λ x. Leaves program x v me) is l))
+
+-- what follows from either way to leave is so
+pub either_left : {P : Type 0} (how : Left) → (how ≡ leaving.Rested → P) → ((cause : Why) → how ≡ leaving.Stopped cause
+    → P) → P
+either_left leaving.Rested f g = f refl
+either_left (leaving.Stopped cause) f g = g cause refl
+
+-- a bell may be shared, and an observer may be told how often it looks, and for what
 pub bell_sync : IsSync parker.the_row
 bell_sync = search (sendable, crosses) depth 20
 
-pub looks_send : IsSend looks.the_row
-looks_send = search (sendable, crosses) depth 20
+pub watch_send : IsSend watch.the_row
+watch_send = search (sendable, crosses) depth 40

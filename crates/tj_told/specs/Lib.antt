@@ -4,3 +4,4 @@ pub mod ToldLinks
 pub mod Hearing
 pub mod Observers
 pub mod SeenNews
+pub mod EndedNews

@@ -1,9 +1,10 @@
--- What is told: when two cycles are equal, which cells an outcome tells to be broken, and that an outcome's cycles are
--- told, each once.
-use Rattle.std.specs.Prelude.{◌≡◌, ◌⊎◌, Bool, false, ◌&&◌, List, [], ◌∷◌}
+-- What is told: when two cycles are equal, which cells an outcome tells to be broken, that an outcome's cycles are
+-- told, each once, and which value is told of a cell that is watched.
+use Rattle.std.specs.Prelude.{◌≡◌, ◌⊎◌, Bool, true, false, ◌&&◌, List, [], ◌∷◌, Option, Some}
 use Rattle.std.specs.Cmp.Lexicographic.{pointwise}
 use Rattle.tj_base.specs.ForkOrder.{Name}
 use Rattle.tj_base.specs.declared.cause.Cause.{Cause}
+use Rattle.tj_base.specs.declared.value.Shown.{Shown}
 use Rattle.tj_body.specs.Names.{same}
 use Rattle.tj_body.specs.Points.{IsIn}
 use Rattle.tj_mean.specs.declared.outcome.Ending.{Ending}
@@ -11,6 +12,8 @@ use Rattle.tj_mean.specs.declared.outcome.Ending.TheVariants as ending
 use Rattle.tj_mean.specs.declared.outcome.Link.{Link}
 use Rattle.tj_mean.specs.declared.outcome.Outcome.{Outcome}
 use Rattle.tj_mean.specs.declared.outcome.TaskLine.{TaskLine}
+use Rattle.tj_report.specs.declared.named_values.Became.{Became}
+use Rattle.tj_report.specs.declared.named_values.Became.TheVariants as became
 use Rattle.tj_told.specs.declared.news.News.{News}
 use Rattle.tj_told.specs.declared.news.News.TheVariants as news
 
@@ -26,6 +29,13 @@ same_cycle a b = pointwise same_link a b
 abbrev pub tells_cycle : List Link → News → Bool
 tells_cycle c (news.Cycle d) = same_cycle c d
 tells_cycle c (news.Broken q) = false
+tells_cycle c (news.Value q v) = false
+
+-- whether a value is what was told
+abbrev pub is_value : News → Bool
+is_value (news.Cycle c) = false
+is_value (news.Broken q) = false
+is_value (news.Value q v) = true
 
 -- one of these cycles was told
 abbrev pub IsCycleOf : List (List Link) → News → Type 0
@@ -50,6 +60,12 @@ pub record AreTold (told : List News) (o : Outcome) : Type 0 where
   pub only : (c : List Link) → IsIn (news.Cycle c) told → IsIn c o.cycles
   pub all : (c : List Link) → IsIn c o.cycles → IsIn (news.Cycle c) told
   pub broken : (q : Name) → IsIn (news.Broken q) told → IsBrokenIn o q
+
+-- each value that was told is of the cell that is watched by its name, and is what became of that cell at rest; so none
+-- was told where no cell is watched
+abbrev pub AreAnswers : Option Name → Option Became → List News → Type 0
+AreAnswers watched answer told = (q : Name) (v : Shown) → IsIn (news.Value q v) told
+    → (watched ≡ Some q) × (answer ≡ Some (became.Value v))
 
 -- this is among what is told now, and nothing else that wasn't before
 pub record AddsTo (n : News) (before now : List News) : Type 0 where

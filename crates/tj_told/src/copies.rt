@@ -1,11 +1,11 @@
-//! Copies of cycles, and the tests whether two are equal, and whether one was told.
+//! Copies of cycles and of values, and the tests whether two cycles are equal, and whether one was told.
 ghost use Rattle.std.specs.Prelude.{◌≡◌, IfOk};
 ghost use Rattle.std.specs.List.{list_any};
 ghost use Rattle.tj_told.specs.ToldNews.{same_cycle, tells_cycle};
 
 use crate::news::News;
 use std::alloc::Global;
-use tj_base::{Items, Oom};
+use tj_base::{Items, Oom, Shown};
 use tj_mean::{Link, LinkList};
 
 /// A copy of a cycle.
@@ -29,6 +29,17 @@ fn link_copy(alloc: Global, link: &Link) -> Result<Link, Oom>
     Ok(Link { task, cell })
 }
 
+/// A copy of a value.
+pub fn copy_of_value(alloc: Global, value: &Shown) -> Result<Shown, Oom>
+    // It is an equal value.
+    ensures { IfOk result (λ copy. copy ≡ value.now) }
+{
+    match value {
+        Shown::Num(number) => Ok(Shown::Num(*number)),
+        Shown::Ref(name) => Ok(Shown::Ref(name.copy(alloc)?)),
+    }
+}
+
 /// Whether the cycle is among what was told.
 pub(crate) fn is_among(links: &LinkList, told: &[News]) -> bool
     ensures { result ≡ list_any (tells_cycle links.now) told.now }
@@ -42,7 +53,7 @@ fn tells_cycle(links: &LinkList, news: &News) -> bool
 {
     match news {
         News::Cycle(cycle) => are_same(links, cycle),
-        News::Broken(_) => false,
+        News::Broken(_) | News::Value(_, _) => false,
     }
 }
 

@@ -14,12 +14,15 @@ mod run;
 mod script;
 mod settling;
 mod telling;
+mod values;
+mod watch;
 
-pub use copies::copy_of;
+pub use copies::{copy_of, copy_of_value};
 pub use fault::ToldFault;
 pub use listener::{Goes, Listener};
 pub use looks::Looks;
 pub use names::name_at;
 pub use news::News;
 pub use run::run_told;
-pub use script::run_script_told;
+pub use script::{run_script_told, watch_script_named};
+pub use watch::watch_named;

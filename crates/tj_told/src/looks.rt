@@ -1,4 +1,5 @@
-//! How often an observer looks.
+//! How often an observer looks, and for what.
+use tj_base::Name;
 
 /// How often an observer looks at the cells while a run goes on.
 #[derive(Clone, Copy)]
@@ -7,4 +8,11 @@ pub enum Looks {
     Every(u32),
     /// Nobody looks: each cycle is told at rest.
     Never,
+}
+
+/// How often an observer looks, and the name of the cell whose value it tells, if there is one.
+#[derive(Drop)]
+pub(crate) struct Watch {
+    pub(crate) looks: Looks,
+    pub(crate) wanted: Option<Name>,
 }

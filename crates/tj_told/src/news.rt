@@ -1,5 +1,9 @@
 //! What a listener is told.
-use tj_base::{Items, Name};
+ghost use Rattle.std.specs.Prelude.{◌≡◌};
+ghost use Rattle.std.specs.List.{list_any};
+ghost use Rattle.tj_told.specs.ToldNews.{is_value};
+
+use tj_base::{Items, Name, Shown};
 use tj_mean::LinkList;
 
 /// What a listener is told.
@@ -9,7 +13,26 @@ pub enum News {
     Cycle(LinkList),
     /// A promise or a task's result that has no value and gets none.
     Broken(Name),
+    /// The value of the cell that is watched by this name.
+    Value(Name, Shown),
 }
 
 /// All that a listener was told, in order.
 pub(crate) type NewsList = Items<News>;
+
+/// Whether a value was told.
+pub(crate) fn has_value(told: &[News]) -> bool
+    ensures { result ≡ list_any is_value told.now }
+{
+    told.iter().any(|news| is_value(news))
+}
+
+/// Whether a value is what was told.
+fn is_value(news: &News) -> bool
+    ensures { result ≡ is_value news.now }
+{
+    match news {
+        News::Cycle(_) | News::Broken(_) => false,
+        News::Value(_, _) => true,
+    }
+}

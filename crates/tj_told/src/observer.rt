@@ -2,7 +2,9 @@
 ghost use Rattle.std.specs.Prelude.{◌≡◌, ◌≢◌, Ok, get_or, false};
 ghost use Rattle.tj_words.specs.SeatViews.SeatSteps.{IsCellOf};
 ghost use Rattle.tj_told.specs.Hearing.{Hears, IsStoppedBy};
-ghost use Rattle.tj_told.specs.Observers.{LooksOn, Observes};
+ghost use Rattle.std.specs.Prelude.{Option};
+ghost use Rattle.tj_base.specs.ForkOrder as fork;
+ghost use Rattle.tj_told.specs.Observers.{KnowsCell, LooksOn, Observes};
 ghost use Rattle.tj_told.specs.SeenNews.{AreSeen, IsBrokenNow};
 ghost use Rattle.std.specs.Prelude.{true};
 ghost use Rattle.tj_base.specs.declared.cell.CellId.{CellId};
@@ -12,14 +14,15 @@ ghost use Rattle.tj_words.specs.declared.phase.Walk.TheVariants as walk;
 
 use crate::links::cycle_of;
 use crate::listener::{Goes, Listener};
-use crate::looks::Looks;
+use crate::looks::{Looks, Watch};
 use crate::names::name_at;
 use crate::telling::Telling;
+use crate::values::look_at_value;
 use std::alloc::Global;
 use std::sync::Wait;
 use std::thread::Parker;
 use std::time::Duration;
-use tj_base::{CellId, Oom};
+use tj_base::{CellId, Name, Oom};
 use tj_body::Body;
 use tj_words::{Laid, Once, Phase, WSeat, Walk};
 
@@ -44,29 +47,29 @@ pub(crate) fn observe<B: Body, T: Listener, R: Wait>(
     alloc: Global,
     laid: &Laid<B>,
     seat: WSeat<B>,
-    looks: Looks,
+    watch: Watch,
     bell: &Parker,
     telling: Telling<T>,
 ) -> (WSeat<B>, Telling<T>, Sight)
     requires seat { Observes laid.now seat }
     ensures seat { Observes laid.now result.0 }
     ensures lot { result.0.me.0.lot ≡ seat.me.0.lot }
-    ensures seen { AreSeen seat telling.met.items telling.news
-        → AreSeen result.0 result.1.met.items result.1.news }
-    ensures goes { AreSeen seat telling.met.items telling.news
+    ensures seen { AreSeen watch.wanted seat telling.met.items telling.news
+        → AreSeen watch.wanted result.0 result.1.met.items result.1.news }
+    ensures goes { AreSeen watch.wanted seat telling.met.items telling.news
         → (s : T) → Hears T.tells telling.news s telling.listener
         → result.2 ≢ Sight.Stops → Hears T.tells result.1.news s result.1.listener }
-    ensures stops { AreSeen seat telling.met.items telling.news
+    ensures stops { AreSeen watch.wanted seat telling.met.items telling.news
         → (s : T) → Hears T.tells telling.news s telling.listener
         → result.2 ≡ Sight.Stops → IsStoppedBy T.tells result.1.news s result.1.listener }
 {
-    let Looks::Every(every) = looks else {
+    let Looks::Every(every) = watch.looks else {
         return (seat, telling, Sight::Ended);
     };
     let mut seat = seat;
     let mut telling = telling;
     for _i in rt.forever() {
-        let sight = look(alloc, laid, &mut seat, &mut telling);
+        let sight = look(alloc, laid, &mut seat, &watch.wanted, &mut telling);
         match sight {
             Sight::GoesOn => bell.park_timeout(rt, Duration::from_millis(u64::from(every))),
             Sight::Ended => return (seat, telling, sight),
@@ -84,16 +87,17 @@ fn look<B: Body, T: Listener>(
     alloc: Global,
     laid: &Laid<B>,
     seat: &mut WSeat<B>,
+    wanted: &Option<Name>,
     telling: &mut Telling<T>,
 ) -> Sight
     requires seat { Observes laid.now seat.old }
     ensures seat { LooksOn seat.old seat.new }
-    ensures seen { AreSeen seat.old telling.old.met.items telling.old.news
-        → AreSeen seat.new telling.new.met.items telling.new.news }
-    ensures goes { AreSeen seat.old telling.old.met.items telling.old.news
+    ensures seen { AreSeen wanted.now seat.old telling.old.met.items telling.old.news
+        → AreSeen wanted.now seat.new telling.new.met.items telling.new.news }
+    ensures goes { AreSeen wanted.now seat.old telling.old.met.items telling.old.news
         → (s : T) → Hears T.tells telling.old.news s telling.old.listener
         → result ≢ Sight.Stops → Hears T.tells telling.new.news s telling.new.listener }
-    ensures stops { AreSeen seat.old telling.old.met.items telling.old.news
+    ensures stops { AreSeen wanted.now seat.old telling.old.met.items telling.old.news
         → (s : T) → Hears T.tells telling.old.news s telling.old.listener
         → result ≡ Sight.Stops → IsStoppedBy T.tells telling.new.news s telling.new.listener }
 {
@@ -105,7 +109,7 @@ fn look<B: Body, T: Listener>(
     }
     let drawn = laid.count(seat, None);
     for c in 0..drawn {
-        match look_at(alloc, laid, seat, CellId(c), telling) {
+        match look_at(alloc, laid, seat, CellId(c), wanted, telling) {
             Ok(Goes::On) => {}
             Ok(Goes::Stop) => return Sight::Stops,
             Err(Oom) => return Sight::Wants,
@@ -120,17 +124,18 @@ fn look_at<B: Body, T: Listener>(
     laid: &Laid<B>,
     seat: &mut WSeat<B>,
     t: CellId,
+    wanted: &Option<Name>,
     telling: &mut Telling<T>,
 ) -> Result<Goes, Oom>
     requires seat { Observes laid.now seat.old }
     requires cell { IsCellOf laid.now t.0 }
     ensures seat { LooksOn seat.old seat.new }
-    ensures seen { AreSeen seat.old telling.old.met.items telling.old.news
-        → AreSeen seat.new telling.new.met.items telling.new.news }
-    ensures goes { AreSeen seat.old telling.old.met.items telling.old.news
+    ensures seen { AreSeen wanted.now seat.old telling.old.met.items telling.old.news
+        → AreSeen wanted.now seat.new telling.new.met.items telling.new.news }
+    ensures goes { AreSeen wanted.now seat.old telling.old.met.items telling.old.news
         → (s : T) → Hears T.tells telling.old.news s telling.old.listener
         → result ≢ Ok Goes.Stop → Hears T.tells telling.new.news s telling.new.listener }
-    ensures stops { AreSeen seat.old telling.old.met.items telling.old.news
+    ensures stops { AreSeen wanted.now seat.old telling.old.met.items telling.old.news
         → (s : T) → Hears T.tells telling.old.news s telling.old.listener
         → result ≡ Ok Goes.Stop → IsStoppedBy T.tells telling.new.news s telling.new.listener }
 {
@@ -144,7 +149,7 @@ fn look_at<B: Body, T: Listener>(
     if tag == 4 {
         return look_at_broken(alloc, laid, seat, t, telling);
     }
-    Ok(Goes::On)
+    look_at_value(alloc, laid, seat, t, wanted, telling)
 }
 
 /// TAG of a cell: where it isn't 0, the seat knows the cell.
@@ -153,6 +158,7 @@ fn load_tag<B: Body>(laid: &Laid<B>, seat: &mut WSeat<B>, c: CellId) -> u64
     requires cell { IsCellOf laid.now c.0 }
     ensures seat { LooksOn seat.old seat.new }
     ensures broken { result ≡ 4 → IsBrokenNow laid.now.cells c.0 seat.new.me.0 }
+    ensures known { result ≢ 0 → KnowsCell c.0 seat.new.me.0 }
 {
     laid.see_once(seat, c, Once::Tag)
 }
@@ -170,12 +176,15 @@ fn look_at_broken<B: Body, T: Listener>(
     requires broken { IsBrokenNow laid.now.cells c.0 seat.old.me.0 }
     requires unmet { get_or telling.old.met.items c.0 false ≡ false }
     ensures seat { LooksOn seat.old seat.new }
-    ensures seen { AreSeen seat.old telling.old.met.items telling.old.news
-        → AreSeen seat.new telling.new.met.items telling.new.news }
-    ensures goes { AreSeen seat.old telling.old.met.items telling.old.news
+    ensures seen { (w : Option fork.Name)
+        → AreSeen w seat.old telling.old.met.items telling.old.news
+        → AreSeen w seat.new telling.new.met.items telling.new.news }
+    ensures goes { (w : Option fork.Name)
+        → AreSeen w seat.old telling.old.met.items telling.old.news
         → (s : T) → Hears T.tells telling.old.news s telling.old.listener
         → result ≢ Ok Goes.Stop → Hears T.tells telling.new.news s telling.new.listener }
-    ensures stops { AreSeen seat.old telling.old.met.items telling.old.news
+    ensures stops { (w : Option fork.Name)
+        → AreSeen w seat.old telling.old.met.items telling.old.news
         → (s : T) → Hears T.tells telling.old.news s telling.old.listener
         → result ≡ Ok Goes.Stop → IsStoppedBy T.tells telling.new.news s telling.new.listener }
 {
@@ -195,8 +204,9 @@ fn look_at_phase<B: Body, T: Listener>(
     requires seat { Observes laid.now seat.old }
     requires cell { IsCellOf laid.now t.0 }
     ensures seat { LooksOn seat.old seat.new }
-    ensures seen { AreSeen seat.old telling.old.met.items telling.old.news
-        → AreSeen seat.new telling.new.met.items telling.new.news }
+    ensures seen { (w : Option fork.Name)
+        → AreSeen w seat.old telling.old.met.items telling.old.news
+        → AreSeen w seat.new telling.new.met.items telling.new.news }
     ensures goes { (s : T) → Hears T.tells telling.old.news s telling.old.listener
         → result ≢ Ok Goes.Stop → Hears T.tells telling.new.news s telling.new.listener }
     ensures stops { (s : T) → Hears T.tells telling.old.news s telling.old.listener

@@ -1,5 +1,5 @@
 //! A run whose deadlocks are told as they happen.
-ghost use Rattle.std.specs.Prelude.{◌≡◌, ◌≢◌, ◌<◌, ◌≤◌, ◌*◌, ◌++◌, ◌∷◌, List, [], All, IfOk, Err, length};
+ghost use Rattle.std.specs.Prelude.{◌≡◌, ◌≢◌, ◌⊎◌, ◌<◌, ◌≤◌, ◌*◌, ◌++◌, ◌∷◌, List, [], All, IfErr, IfOk, Err, length};
 ghost use Rattle.std.specs.Thread.{IsSync};
 ghost use denote.Param.Send.{IsSend};
 ghost use Rattle.tj_body.specs.Asks.{IsFresh};
@@ -9,14 +9,15 @@ ghost use Rattle.tj_embed.specs.Limits.{AreLimits};
 ghost use Rattle.tj_mean.specs.Outcomes.{IsOutcome};
 ghost use Rattle.tj_told.specs.declared.news.News.{News};
 ghost use Rattle.tj_mean.specs.declared.outcome.Outcome.{Outcome};
-ghost use Rattle.tj_run.specs.Leaving.{Leaves};
+ghost use Rattle.tj_run.specs.Leaving.{HasRested, Leaves};
 ghost use Rattle.tj_run.specs.Runs.{HasLots, RestsAt};
 ghost use Rattle.tj_run.specs.Workers.{IsFree, table_program};
+ghost use Rattle.tj_told.specs.EndedNews.{IsEarly};
 ghost use Rattle.tj_told.specs.Hearing.{Hears, IsStoppedBy};
 ghost use Rattle.tj_told.specs.Observers.{Observes};
 ghost use Rattle.tj_told.specs.SeenNews.{AreSeen, AreSeenBy};
-ghost use Rattle.tj_told.specs.ToldNews.{AreTold};
-ghost use Rattle.std.specs.Prelude.{Option};
+ghost use Rattle.tj_told.specs.ToldNews.{AreAnswers, AreTold};
+ghost use Rattle.std.specs.Prelude.{Option, None, Some};
 ghost use Rattle.tj_log.specs.Shown.{SeatShown};
 ghost use Rattle.tj_words.specs.declared.record.Rec.{Rec};
 ghost use Rattle.tj_words.specs.declared.view.View.{View};
@@ -26,12 +27,13 @@ ghost use Rattle.tj_words.specs.LawParts.FirstState.{first_view};
 ghost use Rattle.tj_words.specs.LawParts.Lots.{least_lot};
 ghost use Rattle.tj_words.specs.LawParts.TreeWords.{IsCell};
 ghost use Rattle.tj_body.specs.History.{to_task};
-ghost use Rattle.tj_words.specs.SeatViews.SeatSteps.{IsSeatOf};
+ghost use Rattle.tj_words.specs.SeatViews.SeatSteps.{IsSeatOf, SeatMe};
+ghost use Rattle.tj_words.specs.declared.closed.RestCell.{RestCell};
 ghost use Rattle.tj_words.specs.SeatViews.Views.{IsIdle, both, left_half};
 
 use crate::fault::ToldFault;
 use crate::listener::Listener;
-use crate::looks::Looks;
+use crate::looks::{Looks, Watch};
 use crate::observer::{Sight, observe};
 use crate::settling::tell_rest;
 use crate::telling::Telling;
@@ -72,15 +74,28 @@ pub fn run_told<B: Body, T: Listener, R: Wait + Threads + Sync>(
         in IfOk result.0 (λ _. ¬ IsFull p options.cells) }
     // With an outcome, the cycles that the listener has heard of are those of the outcome, all of
     // them, each once; each cell that it was told to be broken is so by the outcome, and was told
-    // once; and it answered On to each call. So what is told early is never taken back.
-    ensures told { IfOk result.0 (λ outcome. (told : List News)
-        × Hears T.tells told listener result.1 × AreTold told outcome) }
+    // once; no value was told; and it answered On to each call. So what is told early is never
+    // taken back.
+    ensures told { IfOk result.0 (λ outcome. (told : List News) × Hears T.tells told listener
+        result.1 × AreTold told outcome × AreAnswers None None told) }
     // Stopped comes only where it answered Stop to the last call.
     ensures stopped { result.0 ≡ Err ToldFault.Stopped → (told : List News)
         × IsStoppedBy T.tells told listener result.1 }
     // Else it answered On to each call, and nothing was told twice.
     ensures heard { result.0 ≢ Err ToldFault.Stopped → (told : List News)
         × Hears T.tells told listener result.1 }
+    // Where it answered Stop before the run had an outcome, each cycle that was told stood in the
+    // table at the end of its run, and each cell that was told to be broken was so; else it answered
+    // Stop as it was told of the cycles of the outcome.
+    ensures early { result.0 ≡ Err ToldFault.Stopped → (told : List News)
+        × IsStoppedBy T.tells told listener result.1 × (IsEarly
+        (program_of B.places B.awaits B.left B.asks B.then) options.cells options.strict root told
+        ⊎ ((o : Outcome) × IsOutcome (meaning (program_of B.places B.awaits B.left B.asks B.then
+        options.strict root) options.cells) o)) }
+    // So it is of what was told of a run that ends with Full.
+    ensures early_full { result.0 ≡ Err ToldFault.Full → (told : List News)
+        × Hears T.tells told listener result.1 × IsEarly
+        (program_of B.places B.awaits B.left B.asks B.then) options.cells options.strict root told }
     // Full comes only where the meaning is full.
     ensures full { let p = program_of B.places B.awaits B.left B.asks B.then options.strict root
         in result.0 ≡ Err ToldFault.Full → IsFull p options.cells }
@@ -89,7 +104,16 @@ pub fn run_told<B: Body, T: Listener, R: Wait + Threads + Sync>(
     meaning_is_last::<B>();
     let telling = Telling::new(alloc, listener);
     let (rest, telling) = run_beside::<B, NewestFirstPool, OpenGate, T, R>(
-        rt, alloc, root, options, &OpenGate, looks, telling,
+        rt,
+        alloc,
+        root,
+        options,
+        &OpenGate,
+        Watch {
+            looks,
+            wanted: None,
+        },
+        telling,
     );
     let mut telling = telling;
     let rest = match rest {
@@ -107,13 +131,13 @@ pub fn run_told<B: Body, T: Listener, R: Wait + Threads + Sync>(
 }
 
 // The workers, and an observer beside them.
-fn run_beside<B: Body, P: Pool, G: Gate, T: Listener, R: Wait + Threads + Sync>(
+pub(crate) fn run_beside<B: Body, P: Pool, G: Gate, T: Listener, R: Wait + Threads + Sync>(
     rt: &R,
     alloc: Global,
     root: B,
     options: Options,
     gate: &G,
-    looks: Looks,
+    watch: Watch,
     telling: Telling<T>,
 ) -> (Result<RestWords<B>, ToldFault>, Telling<T>)
     requires limits { AreLimits options }
@@ -123,7 +147,12 @@ fn run_beside<B: Body, P: Pool, G: Gate, T: Listener, R: Wait + Threads + Sync>(
     ensures seen { telling.news ≡ [] → IfOk result.0 (λ rest.
         (seat : SeatShown (Option (Rec B)) (View B)) × EndsRun (program_of B.places B.awaits B.left
         B.asks B.then) options.cells options.strict root seat rest.cells rest.records
-        × AreSeenBy seat result.1.news) }
+        × AreSeenBy watch.wanted seat result.1.news) }
+    ensures early { telling.news ≡ [] → IfErr result.0 (λ fault. (result.1.news ≡ [])
+        ⊎ ((seat : SeatShown (Option (Rec B)) (View B)) × (cells : List RestCell)
+        × (records : List (Option (Rec B))) × EndsRun (program_of B.places B.awaits B.left B.asks
+        B.then) options.cells options.strict root seat cells records
+        × AreSeenBy watch.wanted seat result.1.news)) }
     ensures goes { telling.news ≡ [] → (s : T) → Hears T.tells telling.news s telling.listener
         → result.0 ≢ Err ToldFault.Stopped → Hears T.tells result.1.news s result.1.listener }
     ensures stops { telling.news ≡ [] → (s : T) → Hears T.tells telling.news s telling.listener
@@ -136,7 +165,7 @@ fn run_beside<B: Body, P: Pool, G: Gate, T: Listener, R: Wait + Threads + Sync>(
         Err(Oom) => return (Err(ToldFault::Oom), telling),
     };
     let (seat, left, telling, sight) = work_told::<B, P, G, T, R>(
-        rt, alloc, &laid, seat, ends, gate, looks, telling,
+        rt, alloc, &laid, seat, ends, gate, watch, telling,
     );
     (ended(laid, seat, left, sight), telling)
 }
@@ -178,23 +207,41 @@ fn ended<B: Body>(
     sight: Sight,
 ) -> Result<RestWords<B>, ToldFault>
     requires table { IsSeatOf laid seat }
-    requires left { Leaves (program_of B.places B.awaits B.left B.asks B.then) left
+    requires rested { left ≡ Left.Rested → HasRested
         (first_view laid.cells laid.root.value laid.strict) seat.me }
     ensures rest { IfOk result (RestsAt (program_of B.places B.awaits B.left B.asks B.then)
         laid.root.value laid.cells laid.strict) }
     ensures ends { IfOk result (λ rest. EndsRun (program_of B.places B.awaits B.left B.asks B.then)
         laid.cells laid.strict laid.root.value seat rest.cells rest.records) }
-    ensures rested { IfOk result (λ rest. left ≡ Left.Rested) }
+    ensures ended { IfErr result (λ fault. (cells : List RestCell)
+        × (records : List (Option (Rec B))) × EndsRun (program_of B.places B.awaits B.left B.asks
+        B.then) laid.cells laid.strict laid.root.value seat cells records) }
     ensures stopped { result ≡ Err ToldFault.Stopped → sight ≡ Sight.Stops }
     ensures other { result ≢ Err ToldFault.Stopped → sight ≢ Sight.Stops }
     ensures full { result ≡ Err ToldFault.Full → left ≡ Left.Stopped Why.Full }
 {
+    match fault_of(left, sight) {
+        None => Ok(laid.rest(seat)),
+        Some(fault) => {
+            drop(laid.leave(seat));
+            Err(fault)
+        }
+    }
+}
+
+// Why such a run has no outcome, if it has none.
+fn fault_of(left: Left, sight: Sight) -> Option<ToldFault>
+    ensures rested { result ≡ None → left ≡ Left.Rested }
+    ensures stopped { result ≡ Some ToldFault.Stopped → sight ≡ Sight.Stops }
+    ensures other { result ≢ Some ToldFault.Stopped → sight ≢ Sight.Stops }
+    ensures full { result ≡ Some ToldFault.Full → left ≡ Left.Stopped Why.Full }
+{
     match (left, sight) {
-        (_, Sight::Stops) => Err(ToldFault::Stopped),
-        (_, Sight::Wants) => Err(ToldFault::Oom),
-        (Left::Rested, _) => Ok(laid.rest(seat)),
-        (Left::Stopped(Why::Full), _) => Err(ToldFault::Full),
-        (Left::Stopped(Why::Memory), _) => Err(ToldFault::Oom),
+        (_, Sight::Stops) => Some(ToldFault::Stopped),
+        (_, Sight::Wants) => Some(ToldFault::Oom),
+        (Left::Rested, _) => None,
+        (Left::Stopped(Why::Full), _) => Some(ToldFault::Full),
+        (Left::Stopped(Why::Memory), _) => Some(ToldFault::Oom),
     }
 }
 
@@ -208,7 +255,7 @@ fn work_told<B: Body, P: Pool, G: Gate, T: Listener, R: Wait + Threads + Sync>(
     seat: WSeat<B>,
     ends: Vec<P>,
     gate: &G,
-    looks: Looks,
+    watch: Watch,
     telling: Telling<T>,
 ) -> (WSeat<B>, Left, Telling<T>, Sight)
     requires table { IsSeatOf laid.now seat }
@@ -221,9 +268,9 @@ fn work_told<B: Body, P: Pool, G: Gate, T: Listener, R: Wait + Threads + Sync>(
     requires room { 2 * least_lot ≤ seat.me.0.lot }
     requires root { IsCell seat.me.0.born 0 (to_task []) }
     ensures table { result.0.table_id ≡ seat.table_id }
-    ensures left { Leaves (program_of B.places B.awaits B.left B.asks B.then) result.1 seat.me.0
-        result.0.me }
-    ensures seen { telling.news ≡ [] → result.1 ≡ Left.Rested → AreSeenBy result.0 result.2.news }
+    ensures left { (me : SeatMe B) × Leaves (program_of B.places B.awaits B.left B.asks B.then)
+        result.1 seat.me.0 me × (result.1 ≡ Left.Rested → result.0.me ≡ me) }
+    ensures seen { telling.news ≡ [] → AreSeenBy watch.wanted result.0 result.2.news }
     ensures goes { telling.news ≡ [] → (s : T) → Hears T.tells telling.news s telling.listener
         → result.3 ≢ Sight.Stops → Hears T.tells result.2.news s result.2.listener }
     ensures stops { telling.news ≡ [] → (s : T) → Hears T.tells telling.news s telling.listener
@@ -236,12 +283,13 @@ fn work_told<B: Body, P: Pool, G: Gate, T: Listener, R: Wait + Threads + Sync>(
         requires { Observes laid.now theirs }
         ensures { (result.0.table_id ≡ theirs.table_id) × IsIdle result.0.me.0
             × (result.0.me.1 ≡ []) × (result.0.me.0.lot ≡ theirs.me.0.lot)
-            × (telling.news ≡ [] → AreSeen result.0 result.1.met.items result.1.news)
+            × (telling.news ≡ [] → AreSeen watch.wanted result.0 result.1.met.items
+            result.1.news)
             × (telling.news ≡ [] → (s : T) → Hears T.tells telling.news s telling.listener
             → result.2 ≢ Sight.Stops → Hears T.tells result.1.news s result.1.listener)
             × (telling.news ≡ [] → (s : T) → Hears T.tells telling.news s telling.listener
             → result.2 ≡ Sight.Stops → IsStoppedBy T.tells result.1.news s result.1.listener) }
-    { observe(rt, alloc, laid, theirs, looks, bell, telling) };
+    { observe(rt, alloc, laid, theirs, watch, bell, telling) };
     let working = move || -> (WSeat<B>, Left)
         requires { IsSync R.row × IsSync G.row × IsSend B.row × IsSend P.row
             × IsSeatOf laid.now mine × IsFree laid.now mine.me
@@ -261,7 +309,7 @@ fn work_told<B: Body, P: Pool, G: Gate, T: Listener, R: Wait + Threads + Sync>(
     (seat, left, telling, sight)
 }
 
-// The seat of workers at rest takes in that of the observer.
+// The seat of workers at rest takes in that of the observer; where they were stopped, it is left alone.
 fn take_in<B: Body>(
     laid: &Laid<B>,
     worked: WSeat<B>,
@@ -279,10 +327,10 @@ fn take_in<B: Body>(
     ensures took { result.1 ≡ Left.Rested
         → result.0.took ≡ worked.took ++ watched.log ∷ watched.took }
     ensures stopped { (why : Why) → result.1 ≡ Left.Stopped why
-        → (result.0 ≡ worked) × (left ≡ Left.Stopped why) }
+        → (result.0 ≡ watched) × (left ≡ Left.Stopped why) }
 {
     match left {
-        Left::Stopped(why) => (worked, Left::Stopped(why)),
+        Left::Stopped(why) => (watched, Left::Stopped(why)),
         Left::Rested => (laid.merge(worked, watched), Left::Rested),
     }
 }

@@ -7,11 +7,11 @@ ghost use Rattle.tj_told.specs.Hearing.{Hears, IsStoppedBy};
 ghost use Rattle.tj_told.specs.ToldNews.{AddsTo, tells_cycle};
 ghost use Rattle.tj_told.specs.declared.news.News.TheVariants as told;
 
-use crate::copies::{copy_of, is_among};
+use crate::copies::{copy_of, copy_of_value, is_among};
 use crate::listener::{Goes, Listener};
-use crate::news::{News, NewsList};
+use crate::news::{News, NewsList, has_value};
 use std::alloc::Global;
-use tj_base::{CellId, Items, Name, Oom};
+use tj_base::{CellId, Items, Name, Oom, Shown};
 use tj_mean::LinkList;
 
 /// A listener with what it was told, and the cells of which nothing more is to be told.
@@ -88,6 +88,43 @@ impl<T: Listener> Telling<T> {
         let copy = name.copy(alloc)?;
         self.news.push(News::Broken(copy))?;
         Ok(self.listener.broken(name))
+    }
+
+    /// Tells the value of the watched cell, if none was told yet.
+    pub(crate) fn tell_value(
+        &mut self,
+        alloc: Global,
+        name: &Name,
+        value: &Shown,
+    ) -> Result<Goes, Oom>
+        ensures only { (d : News) → IsIn d self.new.news
+            → (d ≡ told.Value name.now value.now) ⊎ IsIn d self.old.news }
+        ensures met { self.new.met ≡ self.old.met }
+        ensures goes { (s : T) → Hears T.tells self.old.news s self.old.listener
+            → result ≢ Ok Goes.Stop → Hears T.tells self.new.news s self.new.listener }
+        ensures stops { (s : T) → Hears T.tells self.old.news s self.old.listener
+            → result ≡ Ok Goes.Stop → IsStoppedBy T.tells self.new.news s self.new.listener }
+    {
+        if has_value(self.news.items()) {
+            return Ok(Goes::On);
+        }
+        self.add_value(alloc, name, value)
+    }
+
+    /// Tells the value of the watched cell.
+    fn add_value(&mut self, alloc: Global, name: &Name, value: &Shown) -> Result<Goes, Oom>
+        ensures news { IfOk result (λ _. self.new.news
+            ≡ self.old.news ++ told.Value name.now value.now ∷ []) }
+        ensures tells { IfOk result (λ goes. T.tells self.old.listener
+            (told.Value name.now value.now) goes self.new.listener) }
+        ensures listener { IfErr result (λ _. self.new.listener ≡ self.old.listener) }
+        ensures same { IfErr result (λ _. self.new.news ≡ self.old.news) }
+        ensures met { self.new.met ≡ self.old.met }
+    {
+        let copy = name.copy(alloc)?;
+        let value_copy = copy_of_value(alloc, value)?;
+        self.news.push(News::Value(copy, value_copy))?;
+        Ok(self.listener.value(name, value))
     }
 
     /// Whether this cell was met.

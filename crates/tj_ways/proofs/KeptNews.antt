@@ -1,9 +1,9 @@
 -- What a listener has kept after calls of which each that was answered On added what it told.
-use Rattle.std.proofs.Common.{◌≡◌, ◌++◌, ◌∷◌, [], List, Result, Ok, IfOk, sym, ap, ◌∙◌, subst, append_assoc}
+use Rattle.std.proofs.Common.{◌≡◌, ◌++◌, ◌∷◌, [], List, None, Result, Ok, IfOk, sym, ap, ◌∙◌, subst, append_assoc}
 use Rattle.std.proofs.lemmas.List.{append-nil}
 use Rattle.tj_mean.specs.declared.outcome.Outcome.{Outcome}
 use Rattle.tj_told.specs.Hearing.{HasHeard, Hears}
-use Rattle.tj_told.specs.ToldNews.{AreApart, AreTold}
+use Rattle.tj_told.specs.ToldNews.{AreAnswers, AreApart, AreTold}
 use Rattle.tj_told.specs.declared.fault.ToldFault.{ToldFault}
 use Rattle.tj_told.specs.declared.listener.Goes.{Goes}
 use Rattle.tj_told.specs.declared.listener.Goes.TheVariants as goes
@@ -20,11 +20,12 @@ module _ (tells : Kept → News → Goes → Kept → Type 0)
 
   -- so one that had nothing has the outcome's
   pub kept_all : (s t : Kept) (r : Result Outcome ToldFault) (o : Outcome) → s.news ≡ [] → r ≡ Ok o
-      → IfOk r (λ (z : Outcome). (ns : List News) × Hears tells ns s t × AreTold ns z)
+      → IfOk r (λ (z : Outcome). (ns : List News) × Hears tells ns s t × AreTold ns z
+      × AreAnswers None None ns)
       → AreTold t.news o × AreApart t.news
   kept_all s t r o none is h =
       let k : IfOk {E = ToldFault} (Ok o) (λ (z : Outcome). (ns : List News) × Hears tells ns s t
-      × AreTold ns z) = subst (λ (z : Result Outcome ToldFault). IfOk z (λ (z : Outcome). (ns : List News)
-      × Hears tells ns s t × AreTold ns z)) is h in
+      × AreTold ns z × AreAnswers None None ns) = subst (λ (z : Result Outcome ToldFault). IfOk z
+      (λ (z : Outcome). (ns : List News) × Hears tells ns s t × AreTold ns z × AreAnswers None None ns)) is h in
       subst (λ z. AreTold z o × AreApart z)
       (sym (kept_after k.0 s t k.1.calls ∙ ap (λ z. z ++ k.0) none)) (k.2, k.1.apart)

@@ -8,19 +8,36 @@ use crate::scripts::CIRCLE;
 use std::alloc::Global;
 use std::sync::Wait;
 use std::thread::Threads;
-use tj_base::{Items, Name, Oom, add_count};
+use tj_base::{Items, Name, Oom, Shown, add_count};
 use tj_embed::{Options, script_in};
 use tj_mean::{LinkList, Outcome};
-use tj_told::{Goes, Listener, Looks, News, copy_of, run_script_told};
+use tj_told::{Goes, Listener, Looks, News, copy_of, copy_of_value, run_script_told};
 
 /// Keeps all that it is told, and stops the run where memory is lacking.
 #[derive(Drop)]
-struct Kept {
+pub(crate) struct Kept {
     alloc: Global,
     news: Items<News>,
 }
 
 impl Kept {
+    /// It was told nothing yet.
+    pub(crate) fn new(alloc: Global) -> Kept
+        ensures { result.news ≡ [] }
+    {
+        Kept {
+            alloc,
+            news: Items::of(Vec::new(alloc)),
+        }
+    }
+
+    /// All that it was told.
+    pub(crate) fn told(&self) -> &[News]
+        ensures { result.now ≡ self.now.news }
+    {
+        self.news.items()
+    }
+
     fn keep_cycle(&mut self, links: &LinkList) -> Result<(), Oom>
         ensures { IfOk result (λ _. self.new.news ≡ self.old.news ++ told.Cycle links.now ∷ []) }
     {
@@ -34,6 +51,16 @@ impl Kept {
     {
         let copy = name.copy(self.alloc)?;
         self.news.push(News::Broken(copy))?;
+        Ok(())
+    }
+
+    fn keep_value(&mut self, name: &Name, value: &Shown) -> Result<(), Oom>
+        ensures { IfOk result (λ _. self.new.news
+            ≡ self.old.news ++ told.Value name.now value.now ∷ []) }
+    {
+        let copy = name.copy(self.alloc)?;
+        let value_copy = copy_of_value(self.alloc, value)?;
+        self.news.push(News::Value(copy, value_copy))?;
         Ok(())
     }
 }
@@ -58,6 +85,13 @@ impl Listener for Kept {
             Err(Oom) => Goes::Stop,
         }
     }
+
+    fn value(&mut self, name: &Name, value: &Shown) -> Goes {
+        match self.keep_value(name, value) {
+            Ok(()) => Goes::On,
+            Err(Oom) => Goes::Stop,
+        }
+    }
 }
 
 /// The outcome of a script, with what was told.
@@ -73,11 +107,7 @@ fn kept_of<R: Wait + Threads + Sync + AllocGlobal>(
 {
     let alloc = rt.alloc();
     let script = script_in(alloc, text).ok()?;
-    let kept = Kept {
-        alloc,
-        news: Items::of(Vec::new(alloc)),
-    };
-    let (outcome, kept) = run_script_told(rt, alloc, &script, options, looks, kept);
+    let (outcome, kept) = run_script_told(rt, alloc, &script, options, looks, Kept::new(alloc));
     match outcome {
         Ok(outcome) => Some((outcome, kept)),
         Err(_fault) => None,
@@ -88,7 +118,7 @@ fn kept_of<R: Wait + Threads + Sync + AllocGlobal>(
 /// runs.
 pub(crate) fn kept_circle<R: Wait + Threads + Sync + AllocGlobal>(rt: &R) -> Option<Vec<u8>> {
     let (_outcome, kept) = kept_of(rt, CIRCLE, Options::usual(), Looks::Never)?;
-    let count = kept.news.items().len();
+    let count = kept.told().len();
     let mut text = Vec::new(rt.alloc());
     add_count(&mut text, b"kept ", count as u128).ok()?;
     text.extend_from_slice(b"\n").ok()?;
@@ -116,7 +146,7 @@ pub(crate) fn kept_broken<R: Wait + Threads + Sync + AllocGlobal>(rt: &R) -> Opt
     let alloc = rt.alloc();
     let (_outcome, kept) = kept_of(rt, OWES, Options::usual(), Looks::Every(0))?;
     let promise = Name::root().child(alloc, 1).ok()?.child(alloc, 1).ok()?;
-    let told = kept.news.items();
+    let told = kept.told();
     let so = told.len() <= 1 && told.iter().all(|news| is_broken(news, &promise));
     let mut text = Vec::new(alloc);
     let line: &[u8] = if so {
@@ -131,7 +161,7 @@ pub(crate) fn kept_broken<R: Wait + Threads + Sync + AllocGlobal>(rt: &R) -> Opt
 /// Whether it was told that this cell is broken.
 fn is_broken(news: &News, cell: &Name) -> bool {
     match news {
-        News::Cycle(_) => false,
+        News::Cycle(_) | News::Value(_, _) => false,
         News::Broken(name) => *name == *cell,
     }
 }

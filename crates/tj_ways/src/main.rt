@@ -4,28 +4,37 @@
 
 mod bodies;
 mod channels;
+mod explained;
 mod kept;
 mod knots;
 mod native;
+mod polled;
 mod rows;
 mod scripts;
 mod told;
+mod values;
+mod watched;
 
 use bodies::handed_over;
 use channels::two_receivers;
+use explained::explained_joins;
 use kept::{kept_broken, kept_circle};
 use knots::told_knot;
 use native::{fibonacci, in_a_knot, sum};
+use polled::three_ways;
 use rows::handed_to_a_child;
 use scripts::{on_a_cycle, planned_and_run, position_of_a_fault, which_owe};
 use std::io;
 use std::process::ExitCode;
+use std::random::RandomSource;
 use std::sync::Wait;
 use std::thread::Threads;
 use tj_ports::{StdSink, put_all};
+use values::values_by_name;
+use watched::watched;
 
 /// What all of them give, where memory lasts.
-fn texts<R: Wait + Threads + Sync + AllocGlobal>(rt: &R) -> Option<[Vec<u8>; 13]> {
+fn texts<R: Wait + Threads + RandomSource + Sync + AllocGlobal>(rt: &R) -> Option<[Vec<u8>; 17]> {
     Some([
         which_owe(rt)?,
         on_a_cycle(rt)?,
@@ -39,7 +48,11 @@ fn texts<R: Wait + Threads + Sync + AllocGlobal>(rt: &R) -> Option<[Vec<u8>; 13]
         told_knot(rt)?,
         kept_circle(rt)?,
         kept_broken(rt)?,
+        watched(rt)?,
         planned_and_run(rt)?,
+        explained_joins(rt.alloc())?,
+        values_by_name(rt)?,
+        three_ways(rt)?,
     ])
 }
 

@@ -10,7 +10,7 @@ use tj_embed::{Options, cycle_with, line_of, owing, plan_script, run_script, scr
 use tj_mean::{Ending, Outcome, TaskLine};
 
 /// A task that forgets its promise.
-const FORGETS: &[u8] = b"task main() {
+pub(crate) const FORGETS: &[u8] = b"task main() {
   let p = new;
   fork giver(own p);
   let v = get p;

@@ -9,18 +9,18 @@ pub returns-in_err-meet-clause-seat : goal.returns-in_err-meet-clause-seat
 returns-in_err-meet-clause-seat g c = looks_itself c.args.seat.now
 
 pub returns-in_err-meet-clause-seen : goal.returns-in_err-meet-clause-seen
-returns-in_err-meet-clause-seen g c h = let t = c.args.telling.now in let m = c.in_err-meet in
+returns-in_err-meet-clause-seen g c wanted h = let t = c.args.telling.now in let m = c.in_err-meet in
     met_on c.args.seat.now t.met.items t.news h c.meet.new.self.met.items m.ensures.kept c.meet.new.self.news
     m.ensures.news
 
 pub returns-in_err-name-clause-seen : goal.returns-in_err-name-clause-seen
-returns-in_err-name-clause-seen g c h = let t = c.args.telling.now in let m = c.in_ok-meet in
+returns-in_err-name-clause-seen g c wanted h = let t = c.args.telling.now in let m = c.in_ok-meet in
     let n = c.name_at.new.seat in
     met_on n t.met.items t.news (seen_on c.args.seat.now n t.met.items t.news c.name_at.ensures.seat h)
     c.meet.new.self.met.items m.ensures.kept c.meet.new.self.news m.ensures.news
 
 pub returns-clause-seen : goal.returns-clause-seen
-returns-clause-seen g c h = let t = c.args.telling.now in let m = c.in_ok-meet in let n = c.name_at.new.seat in
+returns-clause-seen g c wanted h = let t = c.args.telling.now in let m = c.in_ok-meet in let n = c.name_at.new.seat in
     let w = c.meet.new.self in let x = c.tell_broken in let q = c.in_ok-name.name in
     with_broken n w.met.items w.news
     (met_on n t.met.items t.news (seen_on c.args.seat.now n t.met.items t.news c.name_at.ensures.seat h) w.met.items
@@ -31,7 +31,8 @@ returns-clause-seen g c h = let t = c.args.telling.now in let m = c.in_ok-meet i
     c.in_ok-name.ensures.name c.in_ok-name.ensures.seen)
 
 pub returns-clause-goes : goal.returns-clause-goes
-returns-clause-goes g c seen s h says = let t = c.args.telling.now in let m = c.in_ok-meet in let w = c.meet.new.self in
+returns-clause-goes g c wanted seen s h says = let t = c.args.telling.now in let m = c.in_ok-meet in let w =
+    c.meet.new.self in
     let x = c.tell_broken in let q = c.in_ok-name.name in
     told_goes g.T.Listener.tells (news.Broken q) w.news x.new.self.news w.listener x.new.self.listener s
     (news_unmet c.args.laid.now.cells c.args.c.0 q c.args.seat.now c.name_at.new.seat t.met.items t.news w.news
@@ -40,7 +41,7 @@ returns-clause-goes g c seen s h says = let t = c.args.telling.now in let m = c.
     (hears_same g.T.Listener.tells t.news w.news s t.listener w.listener m.ensures.news m.ensures.listener h) says
 
 pub returns-clause-stops : goal.returns-clause-stops
-returns-clause-stops g c seen s h is = let t = c.args.telling.now in let m = c.in_ok-meet in
+returns-clause-stops g c wanted seen s h is = let t = c.args.telling.now in let m = c.in_ok-meet in
     let w = c.meet.new.self in let x = c.tell_broken in let q = c.in_ok-name.name in
     told_stops g.T.Listener.tells (news.Broken q) w.news x.new.self.news w.listener x.new.self.listener s
     (news_unmet c.args.laid.now.cells c.args.c.0 q c.args.seat.now c.name_at.new.seat t.met.items t.news w.news

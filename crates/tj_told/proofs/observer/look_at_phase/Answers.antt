@@ -48,13 +48,13 @@ cycle_of-requires-clause-alarmed g c κs within = let p = c.see_phase-phase in
     alarm_seen c.args.t.0 p.result a.0 a.1 c.args.seat.now.log p.new.seat.log a.2 p.ensures.log.0
 
 pub returns-then-not-has_alarmed-clause-seen : goal.returns-then-not-has_alarmed-clause-seen
-returns-then-not-has_alarmed-clause-seen g c h = let p = c.see_phase-phase in let t = c.args.telling.now in
+returns-then-not-has_alarmed-clause-seen g c wanted h = let p = c.see_phase-phase in let t = c.args.telling.now in
     seen_on c.args.seat.now p.new.seat t.met.items t.news
     (after_phase c.args.laid.now c.args.laid.now.cells c.args.t.0 p.result c.args.seat.now p.new.seat c.requires.seat
     p.ensures.seat p.ensures.view (grows_by p.ensures.log.0)) h
 
 pub returns-in_err-meet-clause-seen : goal.returns-in_err-meet-clause-seen
-returns-in_err-meet-clause-seen g c h = let p = c.see_phase-phase in let t = c.args.telling.now in
+returns-in_err-meet-clause-seen g c wanted h = let p = c.see_phase-phase in let t = c.args.telling.now in
     let m = c.in_err-meet in
     met_on p.new.seat t.met.items t.news (seen_on c.args.seat.now p.new.seat t.met.items t.news
     (after_phase c.args.laid.now c.args.laid.now.cells c.args.t.0 p.result c.args.seat.now p.new.seat c.requires.seat
@@ -62,7 +62,7 @@ returns-in_err-meet-clause-seen g c h = let p = c.see_phase-phase in let t = c.a
     c.meet.new.self.news m.ensures.news
 
 pub returns-in_err-links-clause-seen : goal.returns-in_err-links-clause-seen
-returns-in_err-links-clause-seen g c h = let p = c.see_phase-phase in let n = c.cycle_of.new.seat in
+returns-in_err-links-clause-seen g c wanted h = let p = c.see_phase-phase in let n = c.cycle_of.new.seat in
     let t = c.args.telling.now in let m = c.in_ok-meet in
     met_on n t.met.items t.news (seen_on c.args.seat.now n t.met.items t.news
     (looks_on c.args.seat.now p.new.seat n
@@ -71,7 +71,7 @@ returns-in_err-links-clause-seen g c h = let p = c.see_phase-phase in let n = c.
     m.ensures.kept c.meet.new.self.news m.ensures.news
 
 pub returns-in-Some-clause-seen : goal.returns-in-Some-clause-seen
-returns-in-Some-clause-seen g c h = let p = c.see_phase-phase in let n = c.cycle_of.new.seat in
+returns-in-Some-clause-seen g c wanted h = let p = c.see_phase-phase in let n = c.cycle_of.new.seat in
     let t = c.args.telling.now in let m = c.in_ok-meet in let w = c.meet.new.self in let x = c.tell_new in
     with_cycle n w.met.items w.news (met_on n t.met.items t.news (seen_on c.args.seat.now n t.met.items t.news
     (looks_on c.args.seat.now p.new.seat n
@@ -83,7 +83,7 @@ returns-in-Some-clause-seen g c h = let p = c.see_phase-phase in let n = c.cycle
     c.in_ok-links.ensures.round)
 
 pub returns-in-None-clause-seen : goal.returns-in-None-clause-seen
-returns-in-None-clause-seen g c h = let p = c.see_phase-phase in let n = c.cycle_of.new.seat in
+returns-in-None-clause-seen g c wanted h = let p = c.see_phase-phase in let n = c.cycle_of.new.seat in
     let t = c.args.telling.now in let m = c.in_ok-meet in
     met_on n t.met.items t.news (seen_on c.args.seat.now n t.met.items t.news
     (looks_on c.args.seat.now p.new.seat n

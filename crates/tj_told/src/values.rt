@@ -1,0 +1,110 @@
+//! The value of a cell that is watched by its name.
+ghost use Rattle.std.specs.Prelude.{◌≡◌, ◌≢◌, Ok, IfOk, IfSome, true};
+ghost use Rattle.tj_words.specs.SeatViews.SeatSteps.{IsCellOf};
+ghost use Rattle.tj_told.specs.Hearing.{Hears, IsStoppedBy};
+ghost use Rattle.tj_told.specs.Observers.{KnowsCell, LooksOn, Observes};
+ghost use Rattle.tj_told.specs.SeenNews.{AreSeen, HasSeenValue, IsNameOf, IsSeenAs};
+
+use crate::listener::{Goes, Listener};
+use crate::names::name_at;
+use crate::telling::Telling;
+use std::alloc::Global;
+use tj_base::{CellId, Name, Oom, Shown};
+use tj_body::Body;
+use tj_cells::{Seen, value};
+use tj_words::{Laid, WSeat};
+
+/// A look at a cell of which something has become: if it is the wanted one, its value is told.
+pub(crate) fn look_at_value<B: Body, T: Listener>(
+    alloc: Global,
+    laid: &Laid<B>,
+    seat: &mut WSeat<B>,
+    c: CellId,
+    wanted: &Option<Name>,
+    telling: &mut Telling<T>,
+) -> Result<Goes, Oom>
+    requires seat { Observes laid.now seat.old }
+    requires cell { IsCellOf laid.now c.0 }
+    requires known { KnowsCell c.0 seat.old.me.0 }
+    ensures seat { LooksOn seat.old seat.new }
+    ensures seen { AreSeen wanted.now seat.old telling.old.met.items telling.old.news
+        → AreSeen wanted.now seat.new telling.new.met.items telling.new.news }
+    ensures goes { (s : T) → Hears T.tells telling.old.news s telling.old.listener
+        → result ≢ Ok Goes.Stop → Hears T.tells telling.new.news s telling.new.listener }
+    ensures stops { (s : T) → Hears T.tells telling.old.news s telling.old.listener
+        → result ≡ Ok Goes.Stop → IsStoppedBy T.tells telling.new.news s telling.new.listener }
+{
+    let Some(name) = wanted else {
+        return Ok(Goes::On);
+    };
+    telling.meet(c)?;
+    match value_if_named(alloc, laid, seat, c, name)? {
+        Some(value) => telling.tell_value(alloc, name, &value),
+        None => Ok(Goes::On),
+    }
+}
+
+/// The value of the cell, if that is its name, and it has a value.
+fn value_if_named<B: Body>(
+    alloc: Global,
+    laid: &Laid<B>,
+    seat: &mut WSeat<B>,
+    c: CellId,
+    wanted: &Name,
+) -> Result<Option<Shown>, Oom>
+    requires seat { Observes laid.now seat.old }
+    requires cell { IsCellOf laid.now c.0 }
+    requires known { KnowsCell c.0 seat.old.me.0 }
+    ensures seat { LooksOn seat.old seat.new }
+    ensures value { IfOk result (λ found. IfSome found (λ v. HasSeenValue c.0 wanted.now v
+        seat.new.me.0)) }
+{
+    let name = name_at(alloc, laid, seat, c)?;
+    if !is_name(&name, wanted) {
+        return Ok(None);
+    }
+    value_at(alloc, laid, seat, c)
+}
+
+/// Whether two names are equal.
+fn is_name(a: &Name, b: &Name) -> bool
+    ensures { result ≡ true → a.now ≡ b.now }
+{
+    a == b
+}
+
+/// The value of the cell, if it has one.
+fn value_at<B: Body>(
+    alloc: Global,
+    laid: &Laid<B>,
+    seat: &mut WSeat<B>,
+    c: CellId,
+) -> Result<Option<Shown>, Oom>
+    requires seat { Observes laid.now seat.old }
+    requires cell { IsCellOf laid.now c.0 }
+    ensures seat { LooksOn seat.old seat.new }
+    ensures value { IfOk result (λ found. IfSome found (λ v. IsSeenAs c.0 v seat.new.me.0)) }
+{
+    match value(laid, seat, c) {
+        Seen::Num(number) => Ok(Some(Shown::Num(number))),
+        Seen::Promise(of) => reference(alloc, laid, seat, of),
+        Seen::Task(of) => reference(alloc, laid, seat, of),
+        Seen::Broken | Seen::NotYet => Ok(None),
+    }
+}
+
+/// A reference to a cell, by its name.
+fn reference<B: Body>(
+    alloc: Global,
+    laid: &Laid<B>,
+    seat: &mut WSeat<B>,
+    of: CellId,
+) -> Result<Option<Shown>, Oom>
+    requires seat { Observes laid.now seat.old }
+    requires cell { IsCellOf laid.now of.0 }
+    requires known { KnowsCell of.0 seat.old.me.0 }
+    ensures seat { LooksOn seat.old seat.new }
+    ensures name { IfOk result (λ found. IfSome found (λ v. IsNameOf of.0 v seat.new.me.0)) }
+{
+    Ok(Some(Shown::Ref(name_at(alloc, laid, seat, of)?)))
+}
