@@ -11,7 +11,7 @@ use tj_runs::{alike_seats, call_runs, lasting_words, own_runs};
 /// some moment has alarmed by the closed words, and its cycle is theirs. Each cycle of closed words is
 /// one of the meaning, by names.
 pub fn own_moments<B>()
-    // At each moment of the run that a table has (`tj_words::tables_have_runs`), each task that has
+    // At each moment of the run that a table has (`tj_runs::tables_have_runs`), each task that has
     // alarmed is on a cycle of waits, and each cycle has a member that has alarmed or an open walk.
     // Of what stands in the table now: what has alarmed at that moment has alarmed, a cycle that
     // stood stands with its members and cells, Ended, Alarmed and Promise stand, STOP that wasn't 0
@@ -32,7 +32,7 @@ pub fn own_moments<B>()
 /// In the run that a table has, what a seat has in hand isn't at home, and a record at home stays as
 /// it is until it is taken, whether a seat holds its task or not.
 pub fn own_records<B>()
-    // At each moment of the run that a table has (`tj_words::tables_have_runs`), a slot that a seat
+    // At each moment of the run that a table has (`tj_runs::tables_have_runs`), a slot that a seat
     // has in hand isn't at home, no other seat has it in hand, and the seat has it once.
     ensures hands { HandsAreApart B }
     // At each step of that run what lies at home in a slot stays there as it is, or that step takes

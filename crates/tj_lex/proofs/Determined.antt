@@ -78,8 +78,8 @@ Spells-bytes text a b (toks.Mark v) h k = sym h.0 ∙ k.0
 Spells-bytes text a b toks.End h k = absurd h
 
 -- a text begins with one fault
-IsFaultAt-one : (position : Place) (text : List ℕ) (v w : LexFault) → IsFaultAt position text v → IsFaultAt position text w
-    → v ≡ w
+IsFaultAt-one : (position : Place) (text : List ℕ) (v w : LexFault) → IsFaultAt position text v
+    → IsFaultAt position text w → v ≡ w
 IsFaultAt-one position text (faults.Byte a) (faults.Byte b) h k = ap faults.Byte (h.0 ∙ sym k.0)
 IsFaultAt-one position text (faults.Byte a) (faults.Number b) h k = absurd (cc (h.2, k.1))
 IsFaultAt-one position text (faults.Byte a) (faults.Long b) h k = absurd (cc (h.1, k.1))

@@ -55,10 +55,6 @@ Spells text bytes (toks.Mark mark) =
     × ((other : Mark) → StartsWith (mark_text other) text → length (mark_text other) ≤ length bytes)
 Spells text bytes toks.End = ⊥
 
--- the text begins with a name
-abbrev pub BeginsWithName : List ℕ → Type 0
-BeginsWithName text = let bytes = take_while is_name_byte text in Spells text bytes (toks.Name bytes)
-
 -- the text begins with a fault, which stands at this position
 abbrev pub IsFaultAt : Place → List ℕ → LexFault → Type 0
 IsFaultAt position text (faults.Byte at) =

@@ -7,18 +7,18 @@ mod gap;
 pub mod laws;
 mod number;
 mod place;
-mod scan;
 mod spelling;
 mod token;
 mod word;
 
 pub use bytes::MAX_TEXT;
 pub use place::Place;
-pub use scan::tokens;
 pub use token::{Key, LexFault, Mark, Tok, Token};
 pub use word::Word;
 
 mod room;
 mod shorts;
+mod whole;
 
 pub use shorts::{Kind, Seen, Short, short_tokens};
+pub use whole::tokens;

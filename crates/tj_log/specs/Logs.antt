@@ -49,6 +49,7 @@ module _ {V : Type 0} where
     befores = earlier v.befores.views (v.befores.taken ++ w.befores.views ∷ w.befores.taken);
   }
 
+  -- the caller's view
   abbrev pub own_view : Logged V → V
   own_view v = v.own
 
@@ -56,6 +57,7 @@ module _ {V : Type 0} where
   abbrev pub own_state : {S : Type 0} → State S (Logged V) → State S V
   own_state s = record { words = s.words; homes = s.homes; views = map own_view s.views }
 
+  -- the caller's view of a seat, with the slots that it holds
   abbrev pub own_me : {S : Type 0} → Me S (Logged V) → Me S V
   own_me m = (m.0.own, m.1)
 

@@ -192,20 +192,23 @@ module _ {V : Type 0} where
   entries_at f (v ∷ vs) zero = f v
   entries_at f (v ∷ vs) (suc j) = entries_at f vs j
 
-  -- the log of the seat j, what it has taken in, the numbers of the slots that its last step left it with, and the view
-  -- before each step of these logs
+  -- the log of the seat j
   abbrev pub log_at : List (Logged V) → ℕ → List Entry
   log_at = entries_at (λ v. v.log)
 
+  -- the logs of the seats that it has taken in
   abbrev pub took_at : List (Logged V) → ℕ → List (List Entry)
   took_at = entries_at (λ v. v.took)
 
+  -- the numbers of the slots that its last step left it with
   abbrev pub slots_at : List (Logged V) → ℕ → List ℕ
   slots_at = entries_at (λ v. v.slots)
 
+  -- the view before each step of its log
   abbrev pub befores_at : List (Logged V) → ℕ → List V
   befores_at = entries_at (λ v. v.befores.views)
 
+  -- the view before each step of the logs that it has taken in
   abbrev pub took_befores_at : List (Logged V) → ℕ → List (List V)
   took_befores_at = entries_at (λ v. v.befores.taken)
 

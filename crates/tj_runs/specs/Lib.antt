@@ -6,3 +6,4 @@ pub mod PushRuns
 pub mod Verdicts
 pub mod AlikeSeats
 pub mod OwnRuns
+pub mod FreshTables

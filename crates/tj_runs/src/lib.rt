@@ -10,3 +10,6 @@ pub use laws::{
     call_runs, ended_walks, found_chains, lasting_words, moments, one_state, own_runs, rested_runs,
     slot_steps, wakes,
 };
+pub use table_laws::{fresh_is_first, tables_have_runs};
+
+mod table_laws;

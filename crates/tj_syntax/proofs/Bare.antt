@@ -13,24 +13,7 @@ use Rattle.tj_lex.specs.Shorts.{tok_of, what_of, whole_tokens}
 use Rattle.tj_syntax.specs.Faults.{kinds_of}
 use Rattle.tj_syntax.specs.Marks.{Name}
 use Rattle.tj_syntax.specs.Inner.Input.{Head, count_params, with_front, with_head}
-use Rattle.tj_syntax.specs.Inner.Reading.{is_leaf, ends_expression}
 use Rattle.tj_syntax.specs.Inner.State.{bare}
-
--- an operand by itself
-pub bare_leaf : (kind : Kind) (bytes : List ℕ) → is_leaf (tok_of kind bytes) ≡ is_leaf (tok_of kind [])
-bare_leaf kinds.Name bytes = refl
-bare_leaf kinds.Num bytes = refl
-bare_leaf (kinds.Key key) bytes = refl
-bare_leaf (kinds.Mark mark) bytes = refl
-bare_leaf kinds.End bytes = refl
-
--- what an expression ends in front of
-pub bare_end : (kind : Kind) (bytes : List ℕ) → ends_expression (tok_of kind bytes) ≡ ends_expression (tok_of kind [])
-bare_end kinds.Name bytes = refl
-bare_end kinds.Num bytes = refl
-bare_end (kinds.Key key) bytes = refl
-bare_end (kinds.Mark mark) bytes = refl
-bare_end kinds.End bytes = refl
 
 -- one token in front of those that are counted
 count_one : (kind : Kind) (bytes : List ℕ) (a b : List Tok) → count_params a ≡ count_params b

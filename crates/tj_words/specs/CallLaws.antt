@@ -5,4 +5,3 @@ pub mod StepLogs
 pub mod CallRuns
 pub mod RestedRuns
 pub mod LoggedRuns
-pub mod FreshTables

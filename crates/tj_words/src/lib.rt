@@ -9,7 +9,6 @@ mod draws;
 mod exchange_plays;
 mod exchanges;
 mod head;
-mod laws;
 mod live_plays;
 mod lives;
 mod loads;
@@ -34,7 +33,6 @@ mod walks;
 
 pub use closed::{Closed, RestCell};
 pub use head::Head;
-pub use laws::{fresh_is_first, tables_have_runs};
 pub use links::{link_cell, link_word};
 pub use offsets::Once;
 pub use phase::{Phase, Walk};

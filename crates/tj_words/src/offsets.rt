@@ -31,18 +31,12 @@ pub(crate) const TABLE_WORDS: usize = 4;
 /// The number of words of each cell.
 pub(crate) const CELL_WORDS: usize = 10;
 
-fn first_word(cell: CellId) -> usize
-    ensures { result ≡ offsets.first_word cell.0 }
-{
-    TABLE_WORDS + CELL_WORDS * cell.0 as usize
-}
-
-/// The index of the word OWN.
+/// The index of the word OWN, the first of those of a cell.
 pub(crate) fn own_at(cell: CellId) -> usize
     ensures word { result ≡ offsets.own_at cell.0 }
     ensures cell { cell_at result ≡ cell.0 }
 {
-    first_word(cell)
+    TABLE_WORDS + CELL_WORDS * cell.0 as usize
 }
 
 /// The index of the word PHASE.
@@ -50,7 +44,7 @@ pub(crate) fn phase_at(cell: CellId) -> usize
     ensures word { result ≡ offsets.phase_at cell.0 }
     ensures cell { cell_at result ≡ cell.0 }
 {
-    first_word(cell) + 1
+    own_at(cell) + 1
 }
 
 /// The index of a word that is written once.
@@ -66,7 +60,7 @@ pub(crate) fn once_at(cell: CellId, word: Once) -> usize
         Once::Depth => 6,
         Once::Jump => 7,
     };
-    first_word(cell) + offset
+    own_at(cell) + offset
 }
 
 /// The index of the word HEAD.
@@ -74,7 +68,7 @@ pub(crate) fn head_at(cell: CellId) -> usize
     ensures word { result ≡ offsets.head_at cell.0 }
     ensures cell { cell_at result ≡ cell.0 }
 {
-    first_word(cell) + 8
+    own_at(cell) + 8
 }
 
 /// The index of the word NEXT.
@@ -82,5 +76,5 @@ pub(crate) fn next_at(cell: CellId) -> usize
     ensures word { result ≡ offsets.next_at cell.0 }
     ensures cell { cell_at result ≡ cell.0 }
 {
-    first_word(cell) + 9
+    own_at(cell) + 9
 }

@@ -11,6 +11,7 @@ use tj_body::Body;
 impl<B: Body> Laid<B> {
     /// Sleeps while TAG of the cell is 0, for no longer than this. It may return at any time, and tells
     /// nothing.
+    #[tactic(auto, using(crate::proofs::SeatLoads::KnowLoads::once_within))]
     pub fn park_on_tag<R: Wait>(&self, rt: &R, c: CellId, most: Duration)
         requires cell { c.0 < self.now.cells }
     {

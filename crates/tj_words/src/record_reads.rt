@@ -44,7 +44,10 @@ impl<B> Rec<B> {
         ensures { result ≡ held_at self.now.held place }
     {
         if place == 0 {
-            return itself(self.parts.cell);
+            return Held {
+                cell: self.parts.cell,
+                sort: Sort::Task,
+            };
         }
         self.parts.others[place as usize - 1]
     }
@@ -55,7 +58,10 @@ impl<B> Rec<B> {
         ensures { result ≡ slice_get self.now.held place }
     {
         if place == 0 {
-            return Some(itself(self.parts.cell));
+            return Some(Held {
+                cell: self.parts.cell,
+                sort: Sort::Task,
+            });
         }
         self.parts.others.get(place as usize - 1).copied()
     }
@@ -115,16 +121,5 @@ impl<B> Rec<B> {
         ensures { result ≡ self.now.spare }
     {
         self.parts.spare
-    }
-}
-
-/// A task among the cells that it holds.
-#[inline(always)]
-fn itself(cell: CellId) -> Held
-    ensures { result ≡ own cell }
-{
-    Held {
-        cell,
-        sort: Sort::Task,
     }
 }

@@ -14,7 +14,7 @@ use crate::owner::word_of_owner;
 use crate::phase::Phase;
 use crate::record::Rec;
 use crate::view::View;
-use atomic_table::{Join, Split, TableRule};
+use atomic_table::{Join, Refused, Split, TableRule};
 use std::alloc::Global;
 use std::snapshot::Snapshot;
 use tj_base::{CellId, Oom};
@@ -120,7 +120,7 @@ impl<B: Body> Laid<B> {
         ensures view { IfOk result (λ made. made.1.me ≡ (first_view cells root strict, [])) }
 
         // The first seat is fresh: it has made no step, was never split, and has taken in no other
-        // one. So by `tj_words::fresh_is_first` the words and the slots are the first ones.
+        // one. So by `tj_runs::fresh_is_first` the words and the slots are the first ones.
         ensures fresh { IfOk result (λ made. logs.IsFresh made.1) }
     {
         start_meets_facts();
@@ -145,8 +145,8 @@ impl<B: Body> Laid<B> {
                 },
                 seat,
             )),
-            Err(refused) => {
-                drop(refused);
+            Err(Refused { slots }) => {
+                drop(slots);
                 Err(Oom)
             }
         }

@@ -5,12 +5,10 @@ ghost use Rattle.tj_events.specs.Events.{MayCount, MayReadOthers};
 ghost use Rattle.tj_events.specs.Events.{count_read, others_read, wait_found};
 ghost use Rattle.tj_words.specs.CallLaws.StepCalls as call;
 ghost use Rattle.tj_words.specs.CallLaws.StepLogs.{IsLogged, KeepsBefore};
-ghost use Rattle.tj_words.specs.Words.Codes as codes;
-ghost use Rattle.tj_words.specs.Words.Owners.{owner_in, owner_number, owner_word};
+ghost use Rattle.tj_words.specs.Words.Owners.{owner_number, owner_word};
 ghost use Rattle.tj_words.specs.Calls.MetCells.{LoadsOwner, LoadsPhase};
 ghost use Rattle.tj_words.specs.Calls.ParkSteps.{FirstTold};
-ghost use Rattle.tj_words.specs.Words.Phases.{phase_in, phase_word};
-ghost use Rattle.tj_words.specs.SeatViews.SeatSteps as steps;
+ghost use Rattle.tj_words.specs.Words.Phases.{phase_word};
 ghost use Rattle.tj_words.specs.SeatViews.SeatSteps.{IsSameSeat};
 ghost use Rattle.tj_words.specs.Steps.StepEvents.{wait_in};
 ghost use Rattle.tj_words.specs.Calls.WalkViews.{IsWalking, MayLoadBy, MayLoadOwner, MayLoadWait};
@@ -56,27 +54,26 @@ impl<B: Body> Laid<B> {
     {
         match by {
             None => self.plain_count(seat),
-            Some(t) => {
-                let found = self.walker_count::<Brand>(seat, t);
-                found.min(self.cells as u64) as u32
-            }
+            Some(t) => self.walker_count::<Brand>(seat, t),
         }
     }
 
-    fn walker_count<M: Naming>(&self, seat: &mut WSeat<B>, t: CellId) -> u64
+    fn walker_count<M: Naming>(&self, seat: &mut WSeat<B>, t: CellId) -> u32
         requires named { M.task ≡ t.0 }
         requires table { seat.old.table_id ≡ self.now.table.shared.table_id }
         requires walks { IsWalking t.0 (λ p way w. MayCount way w) seat.old.me.0 }
         ensures seat { IsSameSeat seat.old seat.new }
-        ensures view { seat.new.me.0
-            ≡ read_on t.0 (count_read (min result self.now.cells)) seat.old.me.0 }
-        ensures some { steps.IsCount self.now.cells result }
-        ensures log { IsLogged (call.counts_by t.0) 0 0 result seat.old seat.new }
+        ensures view { seat.new.me.0 ≡ read_on t.0 (count_read result) seat.old.me.0 }
+        ensures some { 0 < result }
+        ensures few { result ≤ self.now.cells }
+        ensures log { (n : ℕ) × (result ≡ min n self.now.cells)
+            × IsLogged call.counts 0 0 n seat.old seat.new }
         ensures before { KeepsBefore seat.old seat.new }
     {
         event_keeps_facts();
         let _ = t;
-        self.table.load::<WalkerCount<M>>(seat, COUNT)
+        let found = self.table.load::<WalkerCount<M>>(seat, COUNT);
+        found.min(self.cells as u64) as u32
     }
 
     /// The owner of a cell. A walker reads that of its present cell, and then again. Where nobody walks, the view says
@@ -104,11 +101,11 @@ impl<B: Body> Laid<B> {
     {
         match by {
             None => self.plain_owner(seat, c),
-            Some(t) => owner_of_word(self.walker_owner::<Brand>(seat, c, t)),
+            Some(t) => self.walker_owner::<Brand>(seat, c, t),
         }
     }
 
-    fn walker_owner<M: Naming>(&self, seat: &mut WSeat<B>, c: CellId, t: CellId) -> u64
+    fn walker_owner<M: Naming>(&self, seat: &mut WSeat<B>, c: CellId, t: CellId) -> Option<CellId>
         requires named { M.task ≡ t.0 }
         requires table { seat.old.table_id ≡ self.now.table.shared.table_id }
         requires cell { c.0 < self.now.cells }
@@ -116,14 +113,15 @@ impl<B: Body> Laid<B> {
             seat.old.me.0 }
         ensures seat { IsSameSeat seat.old seat.new }
         ensures view { seat.new.me.0
-            ≡ read_on t.0 (λ w. owner_seen (owner_in result) w w.last) seat.old.me.0 }
-        ensures owner { result ≤ self.now.cells }
-        ensures log { IsLogged (call.sees_owner_by t.0 c.0) 0 0 result seat.old seat.new }
+            ≡ read_on t.0 (λ w. owner_seen (owner_number result) w w.last) seat.old.me.0 }
+        ensures task { (u : CellId) → result ≡ Some u → u.0 < self.now.cells }
+        ensures log { IsLogged (call.sees_owner c.0) 0 0 (owner_word (owner_number result))
+            seat.old seat.new }
         ensures before { KeepsBefore seat.old seat.new }
     {
         event_keeps_facts();
         let _ = t;
-        self.table.load::<WalkerOwner<M>>(seat, own_at(c))
+        owner_of_word(self.table.load::<WalkerOwner<M>>(seat, own_at(c)))
     }
 
     /// The phase of a cell. Where nobody walks, the view says what was loaded; and where the cell is the first of the
@@ -152,25 +150,24 @@ impl<B: Body> Laid<B> {
     {
         match by {
             None => self.plain_phase(seat, t),
-            Some(walker) => Phase::of_word(self.walker_wait::<Brand>(seat, t, walker)),
+            Some(walker) => self.walker_wait::<Brand>(seat, t, walker),
         }
     }
 
-    fn walker_wait<M: Naming>(&self, seat: &mut WSeat<B>, u: CellId, t: CellId) -> u64
+    fn walker_wait<M: Naming>(&self, seat: &mut WSeat<B>, u: CellId, t: CellId) -> Phase
         requires named { M.task ≡ t.0 }
         requires table { seat.old.table_id ≡ self.now.table.shared.table_id }
         requires cell { u.0 < self.now.cells }
         requires walks { IsWalking t.0 (λ p way w. MayLoadWait t.0 u.0 w) seat.old.me.0 }
         ensures seat { IsSameSeat seat.old seat.new }
-        ensures view { seat.new.me.0
-            ≡ read_on t.0 (wait_found u.0 (wait_in (phase_in result))) seat.old.me.0 }
-        ensures phase { codes.IsPhaseWord self.now.cells result }
-        ensures log { IsLogged (call.sees_phase_by t.0 u.0) 0 0 result seat.old seat.new }
+        ensures view { seat.new.me.0 ≡ read_on t.0 (wait_found u.0 (wait_in result)) seat.old.me.0 }
+        ensures wait { (c : ℕ) → wait_in result ≡ Some c → c < self.now.cells }
+        ensures log { IsLogged (call.sees_phase u.0) 0 0 (phase_word result) seat.old seat.new }
         ensures before { KeepsBefore seat.old seat.new }
     {
         event_keeps_facts();
         let _ = t;
-        self.table.load::<WalkerWait<M>>(seat, phase_at(u))
+        Phase::of_word(self.table.load::<WalkerWait<M>>(seat, phase_at(u)))
     }
 
     /// OTHERS, at least the number of the other waits that are published.

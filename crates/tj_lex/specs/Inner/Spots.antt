@@ -4,8 +4,7 @@ use Rattle.std.specs.List.{slice_range}
 use Rattle.tj_lex.specs.declared.gap.Spot.{Spot}
 use Rattle.tj_lex.specs.Bytes.{line_feed}
 use Rattle.tj_lex.specs.Positions.{position_after}
-use Rattle.tj_lex.specs.Tokens.{IsGap, Spells}
-use Rattle.tj_lex.specs.declared.scan.Lexeme.{Lexeme}
+use Rattle.tj_lex.specs.Tokens.{IsGap}
 
 -- the spot stands within the text, or at its end, and its position is that of its index
 pub record IsSpot (text : List ℕ) (spot : Spot) : Type 0 where
@@ -17,9 +16,3 @@ pub record AreApart (text : List ℕ) (start stop : ℕ) : Type 0 where
   pub in_order : start ≤ stop
   pub before_more : stop < length text → IsGap (slice_range text start stop)
   pub at_end : stop ≡ length text → IsGap (drop start text ++ line_feed ∷ [])
-
--- the text begins with this token, and it has this many bytes
-pub record IsLexeme (text : List ℕ) (lexeme : Lexeme) : Type 0 where
-  pub some : 0 < lexeme.len
-  pub within : lexeme.len ≤ length text
-  pub spelled : Spells text (take lexeme.len text) lexeme.what

@@ -14,8 +14,8 @@ heads_step see found (t ∷ ts) (suc n) h =
     heads_step see found ts n (omega arith)
     ∙ ap (λ m. heads_from (with_front found (map see (drop n ts))) (map see (drop m (t ∷ ts)))) e
 
-pub heads_end : {A : Type 0} (see : A → Tok) (found : List Head) (ts : List A) (at : ℕ) → length ts ≤ at → heads_from found (map see
-    (drop at ts)) ≡ found
+pub heads_end : {A : Type 0} (see : A → Tok) (found : List Head) (ts : List A) (at : ℕ) → length ts ≤ at
+    → heads_from found (map see (drop at ts)) ≡ found
 unfolding heads_from
 heads_end see found [] zero h = refl
 heads_end see found [] (suc at) h = refl

@@ -119,7 +119,8 @@ statements_step ts i d fresh next old new all h goes e f g =
     ∙ ap (λ n. first ++ statements_from next n rest) (let s : suc i ≡ i + 1 = omega arith in s) in
     ap (λ zs. zs ++ map (statement_place ts) after) f
     ∙ append_assoc old (map (statement_place ts) first) (map (statement_place ts) after)
-    ∙ ap (λ zs. old ++ zs) (sym (map-append (statement_place ts) first after) ∙ ap (map (statement_place ts)) (sym whole))
+    ∙ ap (λ zs. old ++ zs)
+    (sym (map-append (statement_place ts) first after) ∙ ap (map (statement_place ts)) (sym whole))
     ∙ g
   where
     by : (ks : List Tok) (t : Tok) (rest : List Tok) → ks ≡ t ∷ rest → goes_on ks ≡ true

@@ -65,8 +65,8 @@ over (g.tasks_more (g.task f p b) more) = record { brace = λ last n. refl; no_s
 
 -- the brace of a task's block
 block_brace : {tasks : List Name} {room : ℕ} {vars last : List Name} {b : List Noted} {body : Statements}
-    (a : List Noted) → IsBlock tasks room vars b body last → AreInner (a ++ b) → (brace i n : ℕ) → i + length a + length b ≡ suc n
-    → (more : List Tok) → brace_from brace i (tokens_of (a ++ b) ++ more) ≡ brace_from n (suc n) more
+    (a : List Noted) → IsBlock tasks room vars b body last → AreInner (a ++ b) → (brace i n : ℕ)
+    → i + length a + length b ≡ suc n → (more : List Tok) → brace_from brace i (tokens_of (a ++ b) ++ more) ≡ brace_from n (suc n) more
 block_brace a (g.braces {room = room} {a = c} p) inner brace i n e more =
     let front : List Noted = a ++ (toks.Mark m.BraceOpen, opening room) ∷ c in
     let whole : front ++ mark m.BraceClose ∷ []

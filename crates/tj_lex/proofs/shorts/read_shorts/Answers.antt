@@ -49,5 +49,6 @@ tokens-preserved c =
     let pushed = c.in-Ok-push.ensures.items in
     let has = HasTokens-push text 0 (map (token_of text) found) _ (token_of text short) inv.1 behind_gap in (
       spot,
-      rw (next, pushed) (subst (λ ts. HasTokens text 0 ts short.to) (sym (map-append (token_of text) found (short ∷ []))) has),
+      rw (next, pushed)
+          (subst (λ ts. HasTokens text 0 ts short.to) (sym (map-append (token_of text) found (short ∷ []))) has),
     )

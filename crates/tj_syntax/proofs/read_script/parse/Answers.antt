@@ -48,7 +48,8 @@ returns-in-Err-clause-fault c =
     (λ s. fault_at s end.last.at) o))
     (λ first.
     let at : IsFirstStop tokens c.in-Err.stop = subst
-    (λ ts. IsFirstStop ts c.in-Err.stop) (sym (whole_ended c.args.text.now c.args.tokens.now end)) (first end.last end.is_end) in
+    (λ ts. IsFirstStop ts c.in-Err.stop) (sym (whole_ended c.args.text.now c.args.tokens.now end))
+    (first end.last end.is_end) in
     inr (subst (λ f. IsFirstFault tokens f) (sym (c.fault.ensures at.front at.back at.token at.whole at.left))
     at.is_first))
     c.in-Err.ensures.fault

@@ -26,4 +26,5 @@ token_there text shorts left d front back token whole count =
 pub returns-then-left-tokens : goal.returns-then-left-tokens
 returns-then-left-tokens c front back token whole count =
     c.position_behind.ensures
-    ∙ ap (λ (t : Token). t.at) (token_there c.args.text.now c.args.tokens.now c.args.left _ front back token whole count)
+    ∙ ap (λ (t : Token). t.at)
+    (token_there c.args.text.now c.args.tokens.now c.args.left _ front back token whole count)

@@ -67,7 +67,8 @@ returns-in_err-tasks-clause-fault c =
     let e = c.in_err-tasks.field-0.0 in
     let fact : (e ≡ stop.Oom) ⊎ ((last : Token) → last.what ≡ toks.End → IsFirstStop (body ++ last ∷ []) e) =
     ⊎_elim (λ h. inl h)
-    (λ h. let read = reads_whole kinds _ c.new.result (heads_of c.in-Ok.heads) ahead c.new.ensures c.in-Ok.ensures (Err e) h in
+    (λ h. let read = reads_whole kinds _ c.new.result (heads_of c.in-Ok.heads) ahead
+    c.new.ensures c.in-Ok.ensures (Err e) h in
     inr (λ last end. stops_first body last end e read))
     (stopped {A = List Task} (λ l. l) _ e _ c.in_err-tasks.ensures) in
     first_of (search (rules, fact), grind (arith, common_steps))

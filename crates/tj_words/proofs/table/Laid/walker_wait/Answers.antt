@@ -1,7 +1,7 @@
 use Rattle.tj_words.proofs.CallTerms.{IsPhaseWord, IsWalking, Load, arith, cell_at, is_logged, its_cell, phase_in, refl}
-use Rattle.tj_words.proofs.CallTerms.{subst, sym, told_step, wait_found, wait_in, walk_load, ◌∙◌}
+use Rattle.tj_words.proofs.CallTerms.{subst, sym, told_step, wait_found, wait_in, walk_load, ◌∙◌, ◌≡◌}
 use Rattle.tj_words.proofs.SeatLoads.WalkLoads.{wait_read_allowed}
-use Rattle.tj_words.specs.Calls.WalkViews.{MayLoadWait}
+use Rattle.tj_words.specs.Calls.WalkViews.{MayLoadWait, read_on}
 use Rattle.tj_words.specs.CallLaws.StepCalls as call
 use Rattle.tj_words.proofs.table.Laid.walker_wait.Goals as goal
 
@@ -25,5 +25,15 @@ load-requires g c = let a = c.args in let e = a.self.now.key_cells in
           )),
     )
 
+pub returns-clause-view : goal.returns-clause-view
+returns-clause-view g c = let a = c.args in
+    let t = its_cell (λ cells c. walk_load g.M.Naming.task (λ n. wait_found c (wait_in (phase_in n)))
+    (IsPhaseWord cells)) 0 0 {m = a.seat.now.me} a.self.now.slots c.phase_at.ensures.cell c.load.ensures.2 in
+    subst (λ k. c.load.new.seat.me.0 ≡ read_on k (wait_found a.u.0 (wait_in c.of_word.result)) a.seat.now.me.0)
+    c.requires.named
+    (subst (λ p. c.load.new.seat.me.0 ≡ read_on g.M.Naming.task (wait_found a.u.0 (wait_in p)) a.seat.now.me.0)
+    (sym c.of_word.ensures.phase) t.1)
+
 pub returns-clause-log : goal.returns-clause-log
-returns-clause-log g c = is_logged c.phase_at.ensures.word refl refl refl c.load.ensures.3 c.load.ensures.4
+returns-clause-log g c =
+    is_logged c.phase_at.ensures.word refl refl (sym c.of_word.ensures.back) c.load.ensures.3 c.load.ensures.4

@@ -2,7 +2,7 @@ use Rattle.std.proofs.Common.{ap, map, ◌∙◌}
 use mathlib.Core.Option.{some}
 use Rattle.tj_log.proofs.Unmoved.{fresh_first}
 use Rattle.tj_words.specs.CallLaws.StepLogs.{table_terms}
-use Rattle.tj_words.proofs.laws.fresh_is_first.Goals as goal
+use Rattle.tj_runs.proofs.table_laws.fresh_is_first.Goals as goal
 
 pub returns : goal.returns
 returns g c = λ program key s seat kept at fresh.

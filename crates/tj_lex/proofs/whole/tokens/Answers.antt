@@ -1,5 +1,5 @@
 use Rattle.tj_lex.proofs.Determined as determined
-use Rattle.tj_lex.proofs.scan.tokens.Goals as goal
+use Rattle.tj_lex.proofs.whole.tokens.Goals as goal
 
 pub returns-clause-only_tokens : goal.returns-clause-only_tokens
 returns-clause-only_tokens c =

@@ -1,9 +1,9 @@
-//! What stands in a table came from what stands at first by step calls, splits and merges alone. The laws
-//! of such runs are those of tj_runs.
+//! What stands in a table came from what stands at first by step calls, splits and merges alone. What is so of
+//! such runs is said beside.
 //!
 //! The laws stand over the definitions alone, so the functions do nothing: who calls one may rest on
 //! its clauses.
-ghost use Rattle.tj_words.specs.CallLaws.FreshTables as fresh;
+ghost use Rattle.tj_runs.specs.FreshTables as fresh;
 ghost use Rattle.tj_words.specs.CallLaws.LoggedRuns as logged;
 
 /// The words and the slots of a table are the first ones as long as a seat is fresh, as that of `Laid::new` is.
