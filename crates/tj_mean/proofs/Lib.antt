@@ -6,3 +6,7 @@ pub mod Outcomes
 pub mod NotedActs
 pub mod TakenPoints
 pub mod NameMaps
+pub mod Depths
+pub mod RoundWaves
+pub mod WaveSteps
+pub mod TakenTasks

@@ -8,3 +8,5 @@ pub mod NotedActs
 pub mod Owners
 pub mod MetIndexes
 pub mod NameMaps
+pub mod KeptPoints
+pub mod Waves

@@ -6,3 +6,4 @@ pub mod Acts
 pub mod ActLaws
 pub mod WaitIndexes
 pub mod ReportTexts
+pub mod FirstFull

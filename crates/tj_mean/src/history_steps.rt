@@ -2,7 +2,7 @@
 //! from its start or from a point that it has come to.
 ghost use Rattle.std.specs.Prelude.{◌≡◌, ◌<◌, ◌≤◌, ◌^◌, length, map};
 ghost use Rattle.std.specs.Prelude.{IfOk, IfErr, IsSome, IsTrue, IsFalse};
-ghost use Rattle.tj_body.specs.Points.{HasStopped, IsGood, weight};
+ghost use Rattle.tj_body.specs.Points.{HasStopped, IsGood, IsProper, weight};
 ghost use Rattle.tj_body.specs.Programs.{rules_of};
 ghost use Rattle.tj_body.specs.History as history;
 ghost use Rattle.tj_mean.specs.Inner.Assignments.{assignment_in};
@@ -139,4 +139,43 @@ pub fn go_on<B: Body>(
             return Err(PlanFault::Full);
         }
     }
+}
+
+/// The task goes on from this point to where it stops.
+pub fn go_to_stop<B: Body>(
+    alloc: Global,
+    p: &mut Point<B>,
+    given: &NameMap<Entry>,
+    strict: bool,
+) -> Result<(), Oom>
+    requires good { let rules = rules_of B.places B.awaits B.left B.asks B.then strict in
+        IsGood rules p.old }
+    ensures reached { let rules = rules_of B.places B.awaits B.left B.asks B.then strict in
+        IfOk result (λ _. Reaches rules (assignment_in given.now) p.old p.new) }
+    ensures stopped { IfOk result (λ _. HasStopped (assignment_in given.now) p.new) }
+{
+    loop {
+        if !advance(alloc, p, given, strict)? {
+            return Ok(());
+        }
+    }
+}
+
+/// The history of the task.
+pub fn history<B: Body>(
+    alloc: Global,
+    task: Task<B>,
+    given: &NameMap<Entry>,
+    strict: bool,
+) -> Result<Point<B>, Oom>
+    requires proper { let rules = rules_of B.places B.awaits B.left B.asks B.then strict in
+        IsProper rules task }
+
+    // The point is where the task's history stops under these entries.
+    ensures { let rules = rules_of B.places B.awaits B.left B.asks B.then strict in
+        IfOk result (λ p. p ≡ history.history rules (assignment_in given.now) task) }
+{
+    let mut p = start(alloc, task)?;
+    go_to_stop(alloc, &mut p, given, strict)?;
+    Ok(p)
 }

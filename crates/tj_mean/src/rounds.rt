@@ -144,7 +144,7 @@ pub fn at_rest<B: Body>(
 }
 
 /// The point at which the root task begins.
-fn first_points<B: Body>(alloc: Global, root: &B) -> Result<Vec<Point<B>>, Oom>
+pub fn first_points<B: Body>(alloc: Global, root: &B) -> Result<Vec<Point<B>>, Oom>
     ensures { IfOk result (λ points.
         points.items ≡ history.start (programs.root_task root.now) ∷ []) }
 {

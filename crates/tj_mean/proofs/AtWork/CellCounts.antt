@@ -165,7 +165,7 @@ module _ {B : Type 0} (program : Program B) (obeys : AreLawful program.rules)
     names_times : (q : Name) → times q (names_at ps) ≤ is q [] + made_times q
     names_times q = let a = named q in let b = forked_made q in omega arith
 
-    once : (n : ℕ) (q : Name) → length q ≤ n → is q [] + made_times q ≤ 1
+    pub once : (n : ℕ) (q : Name) → length q ≤ n → is q [] + made_times q ≤ 1
     once n [] l =
         let a = total_le_in (λ (p : Point B). times [] (things p)) (λ p. 0) ps
         (λ p i. root_made p (of_rounds p i)) in

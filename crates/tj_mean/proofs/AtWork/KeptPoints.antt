@@ -9,6 +9,7 @@ use Rattle.tj_body.specs.declared.point.Entry.{Entry}
 use Rattle.tj_body.specs.declared.point.Task.{Task}
 use Rattle.tj_body.specs.declared.point.Point.{Point}
 use Rattle.tj_body.proofs.Counts.{total}
+use Rattle.tj_mean.specs.Inner.KeptPoints.{IsKept, AreKept}
 use Rattle.tj_mean.specs.Inner.Reached.{emptied}
 use Rattle.tj_mean.specs.Outcomes.{body_of}
 use Rattle.tj_mean.proofs.AtWork.Fronts.{with_front}
@@ -37,21 +38,6 @@ module _ {A : Type 0} where
   total_set f (z ∷ zs) (suc i) x d h = let r = total_set f zs i x d (omega arith) in omega arith
 
 module _ {B : Type 0} where
-  -- q is the point p without what was handed on
-  pub record IsKept (q p : Point B) : Type 0 where
-    pub handed_children : List (Task B)
-    pub handed_writes : List (Name × Entry)
-    pub stands_for : p ≡ record q { children = handed_children; writes = handed_writes }
-    pub no_children : q.children ≡ []
-    pub no_writes : q.writes ≡ []
-
-  -- each of the first points is one of the second so
-  abbrev pub AreKept : List (Point B) → List (Point B) → Type 0
-  AreKept [] [] = Unit {0}
-  AreKept [] (p ∷ ps) = ⊥
-  AreKept (q ∷ qs) [] = ⊥
-  AreKept (q ∷ qs) (p ∷ ps) = IsKept q p × AreKept qs ps
-
   pub kept_at : (qs ps : List (Point B)) → AreKept qs ps → (i : ℕ) (d e : Point B) → i < length qs
       → IsKept (get_or qs i d) (get_or ps i e)
   kept_at [] [] a i d e h = absurd (omega arith)

@@ -19,13 +19,14 @@ use Rattle.tj_body.proofs.Lists.{in_either, in_right, in_map, to_map}
 use Rattle.tj_body.proofs.RoundPoints.{points_are_good, tasks_start, things_in_rounds, writes_become}
 use Rattle.tj_body.proofs.Rounds.Rests.{rests}
 use Rattle.tj_body.proofs.Rounds.Settles.{is_last}
+use Rattle.tj_mean.specs.Inner.KeptPoints.{IsKept, AreKept}
 use Rattle.tj_mean.specs.Inner.Reached.{Reaches, Enters, emptied}
 use Rattle.tj_mean.specs.Inner.ToldOrder.{AreRestOf, AreEntriesOf}
 use Rattle.tj_mean.proofs.AtWork.CellCounts.{names_of, names_at, forked, made_by, cells_at, AreNamed, cells_length, full_at}
 use Rattle.tj_mean.proofs.AtWork.CellCounts.{names_distinct, name_there, promise_there, root_there, child_there}
 use Rattle.tj_mean.proofs.Lists.Elements.{in_get, get_in}
 use Rattle.tj_mean.proofs.AtWork.Fronts.{with_front}
-use Rattle.tj_mean.proofs.AtWork.KeptPoints.{in_set, in_at, total_set, IsKept, AreKept, kept_at, kept_set, kept_append}
+use Rattle.tj_mean.proofs.AtWork.KeptPoints.{in_set, in_at, total_set, kept_at, kept_set, kept_append}
 use Rattle.tj_mean.proofs.AtWork.KeptPoints.{kept_starts, kept_length, kept_made, kept_bodies, kept_stopped, kept_front}
 use Rattle.tj_mean.proofs.AtWork.KeptPoints.{kept_emptied}
 use Rattle.tj_mean.proofs.Lists.KeyedLists.{same_permuted}
@@ -42,7 +43,7 @@ steps_left left qs room = most_weight * room + total (weight left) qs
 
 module _ {B : Type 0} where
   -- whether a task can go on doesn't hang on what was handed on
-  unfront : (rules : Rules B) (cs : List (Task B)) (ws : List (Name × Entry)) (q : Point B) (s : PointStage)
+  pub unfront : (rules : Rules B) (cs : List (Task B)) (ws : List (Name × Entry)) (q : Point B) (s : PointStage)
       → IsGoodAt rules s (with_front cs ws q) → IsGoodAt rules s q
   unfront rules cs ws q (stage.Answered a) g =
       record { fits = g.fits; all_places = g.all_places; room = g.room }
@@ -50,7 +51,7 @@ module _ {B : Type 0} where
       record { awaits_cell = g.awaits_cell; all_places = g.all_places; room = g.room }
   unfront rules cs ws q (stage.Closed e) g = tt
 
-  times_names : (q : Name) (cs ds : List (Task B))
+  pub times_names : (q : Name) (cs ds : List (Task B))
       → times q (names_of (cs ++ ds)) ≡ times q (names_of cs) + times q (names_of ds)
   times_names q cs ds =
       let a = times_map (λ (c : Task B). c.name) q cs in
@@ -62,11 +63,11 @@ module _ {B : Type 0} where
   abbrev starts : List (Task B) → List (Point B)
   starts cs = map (λ c. start c) cs
 
-  starts_names : (cs : List (Task B)) → names_at (starts cs) ≡ names_of cs
+  pub starts_names : (cs : List (Task B)) → names_at (starts cs) ≡ names_of cs
   starts_names [] = refl
   starts_names (c ∷ cs) = ap (λ l. c.name ∷ l) (starts_names cs)
 
-  starts_forked : (q : Name) (cs : List (Task B)) → forked q (starts cs) ≡ 0
+  pub starts_forked : (q : Name) (cs : List (Task B)) → forked q (starts cs) ≡ 0
   starts_forked q [] = refl
   starts_forked q (c ∷ cs) = let h = starts_forked q cs in omega arith
 
