@@ -1,6 +1,6 @@
 -- Each cell that is told is one of the meaning, so a task made it, and its line tells where.
-use Rattle.std.proofs.Common.{◌≡◌, ℕ, zero, suc, ◌<◌, ◌+◌, ◌*◌, ◌≤◌, Bool, true, false, cond, List, [], ◌∷◌}
-use Rattle.std.proofs.Common.{Option, Some, None, drop, get_or, length, map, refl, sym, ap, subst, ◌∙◌, inl, inr, ◌⊎◌}
+use Rattle.std.proofs.Common.{◌≡◌, ℕ, suc, ◌<◌, ◌*◌, ◌≤◌, Bool, true, false, cond, List, [], ◌∷◌}
+use Rattle.std.proofs.Common.{Option, Some, None, length, map, refl, sym, ap, subst, ◌∙◌, inl, inr, ◌⊎◌}
 use Rattle.std.proofs.Common.{arith}
 use Rattle.std.specs.Prelude.{slice_get}
 use Rattle.std.specs.List.{flat_map}
@@ -47,7 +47,6 @@ use Rattle.tj_trace.specs.Inner.LogLaws.{logged_obeys}
 use Rattle.tj_trace.specs.Logs.{Logged, logged_left, logged_program}
 use Rattle.tj_trace.specs.Lookups.{made_by}
 use Rattle.tj_trace.specs.MadeAt.{made_until, placed_program}
-use Rattle.tj_trace.specs.NoteLaws.{is_sort, things}
 use Rattle.tj_trace.specs.RightLines.{IsMadeIn}
 use Rattle.tj_trace.specs.SpotLaws.{HasPlace}
 use Rattle.tj_trace.specs.TraceLaws.{script_program}
@@ -64,6 +63,7 @@ use Rattle.tj_trace.proofs.Seen.{is_full_alike}
 use Rattle.tj_explain.proofs.BrokenCells.{names_broken}
 use Rattle.tj_explain.proofs.Found.{IsOf, a_cycle, a_debt, a_failure, a_wait, an_echo, is_of}
 use Rattle.tj_explain.proofs.LineNumbers.{found_there}
+use Rattle.tj_explain.proofs.NotedThings.{same_number, thing_at}
 use Rattle.tj_explain.proofs.NamedCells.{CauseNamed, FailsNamed, fails_named}
 use Rattle.tj_explain.proofs.Origins.{closed_of}
 use Rattle.tj_explain.proofs.Placed.{found_in, main_right, maker_in, of_lines, split_name}
@@ -76,15 +76,6 @@ use Rattle.tj_explain.specs.Searches.{last_number, line_of, maker_name, maker_of
 use Rattle.tj_explain.specs.declared.finding.Finding.{Finding}
 use Rattle.tj_explain.specs.declared.finding.ToldCell.{ToldCell}
 use Rattle.tj_explain.specs.declared.finding.Wait.{Wait}
-
--- things with one name have one number
-same_number : (x y : Name) (j k : ℕ) → child x j ≡ child y k → j ≡ k
-same_number [] [] j k e = ap (λ (z : Name). get_or z 0 0) e
-same_number [] (y ∷ ys) j k e =
-    let l = ap (λ (z : Name). length z) e in let a = length-append ys (k ∷ []) in absurd (omega arith)
-same_number (x ∷ xs) [] j k e =
-    let l = ap (λ (z : Name). length z) e in let a = length-append xs (j ∷ []) in absurd (omega arith)
-same_number (x ∷ xs) (y ∷ ys) j k e = same_number xs ys j k (ap (λ (z : Name). drop 1 z) e)
 
 some_length : (x : Name) (k : ℕ) → 0 < length (child x k)
 some_length x k = let a = length-append x (k ∷ []) in omega arith
@@ -104,32 +95,6 @@ looked_up lines x k = by (child x k) refl where
       ap (λ z. made_by (line_of lines z) (last_number (y ∷ ys)))
       (same_maker (maker_name (y ∷ ys)) x (last_number (y ∷ ys)) k both)
       ∙ ap (made_by (line_of lines x)) (same_number (maker_name (y ∷ ys)) x (last_number (y ∷ ys)) k both)
-
--- a thing that notes tell is one with a number, and the note
-thing_there : (s : Sort) (x : Name) (n : ℕ) (ms : List Maker) (q : Name) → IsIn q (things s x n ms)
-    → (k : ℕ) × (m : Maker) × (q ≡ child x (suc (n + k))) × (slice_get ms k ≡ Some m)
-thing_there s x n [] q i = absurd i
-thing_there s x n (m ∷ ms) q i = by (is_sort s m.sort) i (thing_there s x (suc n) ms q) where
-  Found : Type 0
-  Found = (k : ℕ) × (o : Maker) × (q ≡ child x (suc (n + k))) × (slice_get (m ∷ ms) k ≡ Some o)
-
-  on : ((k : ℕ) × (o : Maker) × (q ≡ child x (suc (suc n + k))) × (slice_get ms k ≡ Some o)) → Found
-  on (k, o, e, f) =
-      let z : suc (suc n + k) ≡ suc (n + suc k) = omega arith in (suc k, o, e ∙ ap (child x) z, f)
-
-  by : (b : Bool) → IsIn q (cond b (child x (suc n) ∷ things s x (suc n) ms) (things s x (suc n) ms))
-      → (IsIn q (things s x (suc n) ms)
-      → (k : ℕ) × (o : Maker) × (q ≡ child x (suc (suc n + k))) × (slice_get ms k ≡ Some o)) → Found
-  by true (inl e) rest =
-      let z : suc n ≡ suc (n + 0) = omega arith in (zero, m, e ∙ ap (child x) z, refl)
-  by true (inr i) rest = on (rest i)
-  by false i rest = on (rest i)
-
-thing_at : (s : Sort) (x : Name) (ms : List Maker) (q : Name) → IsIn q (things s x 0 ms)
-    → (k : ℕ) × (m : Maker) × (q ≡ child x (suc k)) × (slice_get ms k ≡ Some m)
-thing_at s x ms q i =
-    let t = thing_there s x 0 ms q i in
-    let z : suc (0 + t.0) ≡ suc t.0 = omega arith in (t.0, t.1, t.2 ∙ ap (child x) z, t.3)
 
 -- a task that is told to wait waits
 waiting_of : (z : PointStage) (q : Name) → ending_of z ≡ Some (ending.Waits q)

@@ -6,6 +6,7 @@ use Rattle.std.specs.List.Sorted.{IsPermutation}
 use Rattle.std.proofs.lemmas.List.Sorted.{length_permutation}
 use Rattle.tj_base.specs.ForkOrder.{Name}
 use Rattle.tj_base.specs.declared.cause.Cause.{Cause}
+use Rattle.tj_base.specs.declared.cause.Cause.TheVariants as cause
 use Rattle.tj_body.specs.Laws.{AreDistinct}
 use Rattle.tj_body.specs.Points.{IsIn}
 use Rattle.tj_body.specs.declared.point.Point.{Point}
@@ -88,6 +89,9 @@ module _ (fs gs : List Finding) (p : IsPermutation fs gs) where
     histories = λ t i. h.histories t (part_here tasks_in t i);
     tasks = λ t i. h.tasks t (part_here tasks_in t i);
     cells = λ q i. h.cells q (part_here cells_in q i);
+    went = λ lines traced t q m i.
+        h.went lines traced t q m (in_permuted fs gs p (finding.Failed t (cause.Owner q) m) i);
+    reasons = λ t c m i. h.reasons t c m (in_permuted fs gs p (finding.Failed t c m) i);
   }
 
   -- one of the lists is empty where the other is

@@ -6,7 +6,6 @@ pub mod ToldInputs
 pub mod Owns
 pub mod SameWords
 pub mod FoundCommands
-pub mod Joined
 pub mod LineNumbers
 pub mod JumpsDoubled
 pub mod CyclesApart
@@ -46,7 +45,10 @@ pub mod PutBelow
 pub mod PutsAfter
 mod PutGrouped
 mod ToldOutcomes
-mod ReasonsAgree
-mod ReasonsBegun
 mod TableRows
 mod ChainEnds
+mod WentsRight
+mod ReasonsTold
+pub mod GroupKeys
+mod NotedThings
+mod PlacedTasks

@@ -1,7 +1,7 @@
 -- A cause that is put into the first group to which it belongs, as the code does it.
 use Rattle.std.proofs.Common.{◌≡◌, ◌<◌, ◌≤◌, ◌+◌, ◌∙◌, ℕ, suc, Bool, true, false, not, cond, List, [], ◌∷◌, ◌++◌}
 use Rattle.std.proofs.Common.{arith, ap, get_or, length, map, slice_set, subst, sym}
-use Rattle.std.specs.List.{prefix_len}
+use Rattle.tj_explain.specs.Inner.GroupKeys as keys
 use Rattle.tj_explain.specs.Forests.{Tree}
 use Rattle.tj_explain.specs.Groups.{alone, belongs, grouped, with_tree}
 use Rattle.tj_explain.specs.Inner.GroupViews.{view}
@@ -9,7 +9,7 @@ use Rattle.tj_explain.specs.declared.groups.Group as code
 
 -- how many groups stand in front of the first to which the cause belongs
 abbrev pub before : Tree → List code.Group → ℕ
-before t gs = prefix_len (λ g. not (belongs t.root (view g).members)) gs
+before t gs = keys.before t.root gs
 
 -- there is such a group
 grouped_there : (t : Tree) (gs : List code.Group) (old new : code.Group) → before t gs < length gs
@@ -42,8 +42,8 @@ grouped_at t gs n old new same less is put =
     ∙ grouped_there t gs old new (subst (λ m. m < length gs) same less) (is ∙ ap (λ m. get_or gs m old) same) put
 
 -- there is no such group
-grouped_behind : (t : Tree) (gs : List code.Group) (new : code.Group) → length gs ≤ before t gs → view new ≡ alone t
-    → map view (gs ++ new ∷ []) ≡ grouped (map view gs) t
+pub grouped_behind : (t : Tree) (gs : List code.Group) (new : code.Group) → length gs ≤ before t gs
+    → view new ≡ alone t → map view (gs ++ new ∷ []) ≡ grouped (map view gs) t
 grouped_behind t [] new past put = ap (λ z. z ∷ []) put
 grouped_behind t (x ∷ gs) new past put =
     by (belongs t.root (view x).members) (λ p. grouped_behind t gs new p put) past where
@@ -56,8 +56,3 @@ grouped_behind t (x ∷ gs) new past put =
           ≡ cond b (with_tree t (view x) ∷ map view gs) (view x ∷ grouped (map view gs) t)
       by true h p = absurd (omega (arith, p))
       by false h p = ap (λ z. view x ∷ z) (h (omega (arith, p)))
-
--- the same by a number that is found
-pub grouped_past : (t : Tree) (gs : List code.Group) (n : ℕ) (new : code.Group) → n ≡ before t gs → length gs ≤ n
-    → view new ≡ alone t → map view (gs ++ new ∷ []) ≡ grouped (map view gs) t
-grouped_past t gs n new same past put = grouped_behind t gs new (subst (λ m. length gs ≤ m) same past) put

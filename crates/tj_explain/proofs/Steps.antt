@@ -1,15 +1,8 @@
--- One step of what goes on for so many steps, or for all elements of a list.
-use Rattle.std.proofs.Common.{◌≡◌, ◌<◌, ◌-◌, ◌+◌, ◌∙◌, ℕ, zero, suc, List, [], ◌∷◌, ◌++◌}
-use Rattle.std.proofs.Common.{length, map, take, get_or, ap, sym, arith}
+-- One step of what goes on for all elements of a list.
+use Rattle.std.proofs.Common.{◌≡◌, ◌<◌, ◌+◌, ◌∙◌, ℕ, List, [], ◌∷◌, ◌++◌}
+use Rattle.std.proofs.Common.{length, map, take, get_or, ap, sym}
 use Rattle.std.proofs.lemmas.List.{flat_map_more, map-append, take_more}
 use Rattle.std.specs.List.{flat_map}
-use Rattle.tj_explain.specs.Carets.{behind_lines, next_line}
-
--- one line more
-pub one_line : (n : ℕ) (text : List ℕ) → 0 < n → behind_lines n text ≡ behind_lines (n - 1) (next_line text)
-one_line zero text some = search (arith, some)
-one_line (suc n) text some = let same : suc n - 1 ≡ n = omega arith in
-    ap (λ k. behind_lines k (next_line text)) (sym same)
 
 -- the text of one element more
 pub text_more : {A : Type 0} (f : A → List ℕ) (xs : List A) (n : ℕ) (x : A) (old new part added : List ℕ)

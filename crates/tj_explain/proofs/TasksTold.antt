@@ -13,6 +13,9 @@ tasks_are_of_histories strict root N lines o traced out t i =
     let p = to_point strict root N lines o traced out l.0 l.1 in
     let so = p.2 in
     subst (IsOfHistory strict root N) (sym l.2) (record {
-      stopped = (l.0.line.ending, refl, (p.0, p.1, so.name, so.stopped));
-      stood = λ u j e. let is = lines_are_of_stands strict root N lines traced l.0 l.1 u j e in (is.decl, is.at);
+      ending = l.0.line.ending;
+      stopped = (refl, (p.0, p.1, so.name, so.stopped));
+      stood = λ u j e.
+          let is = lines_are_of_stands strict root N lines traced l.0 l.1 u j e in
+          (is.decl, is.at, is.began, is.held);
     })

@@ -44,6 +44,7 @@ use Rattle.tj_trace.specs.TraceLaws.{script_program}
 use Rattle.tj_trace.specs.Traces.{AreTraced}
 use Rattle.tj_trace.specs.declared.line.Maker.{Maker}
 use Rattle.tj_trace.specs.declared.line.TraceLine.{TraceLine}
+use Rattle.tj_trace.proofs.OneTrace.{one_trace}
 use Rattle.tj_trace.proofs.Seen.{is_of_outcome}
 use Rattle.tj_explain.proofs.CellsTold.{cells_are_told_right}
 use Rattle.tj_explain.proofs.CommandLimits.{within_limits}
@@ -58,6 +59,8 @@ use Rattle.tj_explain.proofs.TasksTold.{tasks_are_of_histories}
 use Rattle.tj_explain.proofs.Placed.{tasks_are_told_right}
 use Rattle.tj_explain.proofs.Readings.{one_command}
 use Rattle.tj_explain.proofs.ToldOnce.{tells_each_once}
+use Rattle.tj_explain.proofs.ReasonsTold.{reasons_are_told}
+use Rattle.tj_explain.proofs.WentsRight.{promises_went_there}
 use Rattle.tj_explain.specs.Consequences.{ConsequencesFollow}
 use Rattle.tj_explain.specs.Explanations.{OwedIt, StoppedSo, WaitsLeadToToldCycles}
 use Rattle.tj_explain.specs.Findings.{findings_of, maker_named, told_task}
@@ -67,6 +70,7 @@ use Rattle.tj_explain.specs.Tellings.{fine_told, why_text}
 use Rattle.tj_explain.specs.ToldFindings.{Explains, IsExplained, TellsFindings, TextsTellFindings}
 use Rattle.tj_explain.specs.ToldFindings.{findings_told, forest_told, own_places}
 use Rattle.tj_explain.specs.WhyOutput.{IsCommandOutput, IsToldRun, ended, needs_more, of_command, scene_of}
+use Rattle.tj_explain.specs.WentLaws.{WentThere}
 use Rattle.tj_explain.specs.WhyOutput.{usage, was_fine}
 use Rattle.tj_explain.specs.declared.finding.Finding.{Finding}
 use Rattle.tj_explain.specs.declared.finding.Finding.TheVariants as finding
@@ -196,6 +200,8 @@ module _ (strict : Bool) (root : PlacedState) (N : ℕ) (o : Outcome)
     histories = λ t i. absurd i;
     tasks = λ t i. absurd i;
     cells = λ q i. absurd i;
+    went = λ lines traced t q m i. absurd i;
+    reasons = λ t c m i. absurd i;
   }
 
 module _ (leads : (strict : Bool) (root : PlacedState) → WaitsLeadToToldCycles strict root)
@@ -218,6 +224,10 @@ module _ (leads : (strict : Bool) (root : PlacedState) → WaitsLeadToToldCycles
         tasks = tasks_are_told_right script steps root main tokens is.notes is.derived strict N lines o.cycles traced;
         cells = cells_are_told_right script steps root main fresh tokens is.notes is.derived strict N lines o room
             traced out;
+        went = λ other again t q m i. subst (λ z. WentThere strict root N z t q t.went)
+            (one_trace (logged_program strict root) N lines other traced again)
+            (promises_went_there strict root N lines o traced out t q m i);
+        reasons = reasons_are_told script steps root main (kinds_of tokens) is strict N lines o.cycles traced;
       }
 
   module _ (command : WhyCommand) (limits : AreLimits command.limits) (tells : TellsFindings command.telling)

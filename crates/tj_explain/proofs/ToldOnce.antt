@@ -204,7 +204,7 @@ module _ (strict : Bool) (root : PlacedState) (N : ℕ) (lines : List TraceLine)
   same_lines = is_of_outcome strict root N lines o traced out
 
   -- each history has a line, and each line a history
-  to_line : (p : Point TaskState) → IsIn p points → (l : TraceLine) × IsIn l lines × IsOf p l
+  pub to_line : (p : Point TaskState) → IsIn p points → (l : TraceLine) × IsIn l lines × IsOf p l
   to_line p i =
       let s = of_told points out.0 out.1 p i in
       let j = in_unpermuted (map (λ (s : Stopped). s.line) out.0) o.lines out.2.lines s.0.line

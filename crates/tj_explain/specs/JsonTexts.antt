@@ -8,38 +8,22 @@ use Rattle.tj_base.specs.Texts.{name_text}
 use Rattle.tj_base.specs.declared.cause.Cause.{Cause}
 use Rattle.tj_base.specs.declared.cause.Cause.TheVariants as cause
 use Rattle.tj_lex.specs.declared.place.Place.{Place}
-use Rattle.tj_lex.specs.declared.token.LexFault.{LexFault}
-use Rattle.tj_lex.specs.declared.token.LexFault.TheVariants as lex
-use Rattle.tj_lex.specs.declared.token.Token.{Token}
 use Rattle.tj_mean.specs.Outcomes.{is_marked}
 use Rattle.tj_mean.specs.declared.outcome.Outcome.{Outcome}
-use Rattle.tj_syntax.specs.ScriptTexts.{position_of}
-use Rattle.tj_syntax.specs.declared.fault.ParseFault.{ParseFault}
-use Rattle.tj_syntax.specs.declared.fault.ParseFault.TheVariants as parse
-use Rattle.tj_syntax.specs.declared.script_text.NoScript.{NoScript}
-use Rattle.tj_syntax.specs.declared.script_text.NoScript.TheVariants.{Long, Tokens, Grammar}
 use Rattle.tj_trace.specs.declared.line.Maker.{Maker}
 use Rattle.tj_trace.specs.declared.line.TraceLine.{TraceLine}
-use Rattle.tj_explain.specs.FaultWords.{fault_words}
+use Rattle.tj_faults.specs.Objects.{begin, quoted}
 use Rattle.tj_explain.specs.Forests.{Forest, Tree, forest_of}
 use Rattle.tj_explain.specs.LetNames.{let_name}
 use Rattle.tj_explain.specs.ReasonTexts.{reason_for, reason_words}
-use Rattle.tj_explain.specs.Scenes.{Told, found_text, name_of, spot_text, stop_text}
+use Rattle.tj_explain.specs.Scenes.{Told, name_of, spot_text, stop_text}
 use Rattle.tj_explain.specs.WhyTexts.{cause_word, is_promise, stopped_word}
 use Rattle.tj_explain.specs.declared.finding.Finding.{Finding}
 use Rattle.tj_explain.specs.declared.finding.Finding.TheVariants as finding
 use Rattle.tj_explain.specs.declared.finding.ToldCell.{ToldCell}
 use Rattle.tj_explain.specs.declared.finding.ToldTask.{ToldTask}
 use Rattle.tj_explain.specs.declared.finding.Wait.{Wait}
-use Rattle.tj_explain.specs.declared.reason.Reason.{Reason}
-
--- a text in quotes, where it has no quote and no backslash
-abbrev pub quoted : List ℕ → List ℕ
-quoted text = codes "\"" ++ text ++ codes "\""
-
--- a byte in a string: a quote and a backslash stand behind a backslash
-abbrev pub escaped : ℕ → List ℕ
-escaped b = cond (nat_eq b 34 || nat_eq b 92) (92 ∷ b ∷ []) (b ∷ [])
+use Rattle.tj_reasons.specs.declared.reason.Reason.{Reason}
 
 -- the position of a statement, if there is one
 abbrev pub spot_json : Told → Option Maker → List ℕ
@@ -118,10 +102,6 @@ named_json s cause.Steps m = codes "null"
 named_json s (cause.Owner q) m = cell_json s q m
 named_json s (cause.Broken q) m = cell_json s q m
 named_json s (cause.Order q) m = cell_json s q m
-
--- the beginning of an object of this kind
-abbrev pub begin : List ℕ → List ℕ
-begin kind = codes "{\"kind\":" ++ quoted kind
 
 -- the beginning of an object of this kind for a finding: a cause has level 0, and what follows from it level 1
 abbrev pub begin_at : ℕ → List ℕ → List ℕ
@@ -212,34 +192,3 @@ full_json cells = count_json (codes "full") (codes "cells") cells
 abbrev pub told_json : Told → List TraceLine → Outcome → List ℕ
 told_json s lines o =
     cond (is_marked o) (forest_json s (forest_of s.places lines o.cycles)) (fine_json (length lines))
-
--- the letter and the number of a fault of the tokens
-abbrev pub token_code : LexFault → List ℕ
-token_code (lex.Byte at) = codes "L1"
-token_code (lex.Number at) = codes "L2"
-token_code (lex.Long at) = codes "L3"
-token_code lex.Oom = []
-
--- those of a fault of the grammar
-abbrev pub grammar_code : ParseFault → List ℕ
-grammar_code (parse.Expected at) = codes "P1"
-grammar_code (parse.Unknown at) = codes "P2"
-grammar_code (parse.Twice at) = codes "P3"
-grammar_code (parse.Count at) = codes "P4"
-grammar_code (parse.NoMain at) = codes "P5"
-grammar_code (parse.MainParams at) = codes "P6"
-grammar_code (parse.Deep at) = codes "P7"
-grammar_code (parse.Many at) = codes "P8"
-grammar_code parse.Oom = []
-
--- those of a fault
-abbrev pub fault_code : NoScript → List ℕ
-fault_code (Long at) = codes "T1"
-fault_code (Tokens fault) = token_code fault
-fault_code (Grammar fault) = grammar_code fault
-
--- what is told of a text with this fault and these tokens
-abbrev pub fault_json : List ℕ → List Token → NoScript → List ℕ
-fault_json text tokens fault = begin (codes "fault") ++ codes ",\"fault\":" ++ quoted (fault_code fault)
-    ++ codes ",\"at\":" ++ quoted (found_text (position_of fault)) ++ codes ",\"words\":"
-    ++ quoted (flat_map escaped (fault_words text tokens fault)) ++ codes "}\n"

@@ -1,7 +1,6 @@
 pub mod Scenes
 pub mod Echoes
 pub mod WhyTexts
-pub mod Carets
 pub mod DotTexts
 pub mod Tellings
 pub mod WhyLine
@@ -16,9 +15,6 @@ pub mod Origins
 pub mod ToldFindings
 pub mod CellsTold
 pub mod TasksTold
-pub mod Fronts
-pub mod Wanted
-pub mod FaultWords
 pub mod JsonTexts
 pub mod Went
 pub mod WentTexts
@@ -28,6 +24,6 @@ pub mod Forests
 pub mod Groups
 pub mod Consequences
 pub mod LetNames
-pub mod Reasons
 pub mod ReasonTexts
-pub mod ReasonLaws
+pub mod WentLaws
+pub mod ReasonsTold

@@ -9,15 +9,15 @@ use Rattle.tj_base.specs.declared.cell.Sort.TheVariants as sort
 use Rattle.tj_body.specs.declared.point.Value.{Value}
 use Rattle.tj_body.specs.declared.point.Value.TheVariants as value
 use Rattle.tj_syntax.specs.Trees.{Statement}
-use Rattle.tj_explain.specs.Reasons.{failed_at, held_in}
+use Rattle.tj_reasons.specs.Reasons.{failed_at, held_in}
 use Rattle.tj_explain.specs.Scenes.{Told, statement_at}
 use Rattle.tj_explain.specs.declared.finding.ToldTask.{ToldTask}
-use Rattle.tj_explain.specs.declared.reason.Met.{Met}
-use Rattle.tj_explain.specs.declared.reason.Met.TheVariants as met
-use Rattle.tj_explain.specs.declared.reason.Reason.{Reason}
-use Rattle.tj_explain.specs.declared.reason.Reason.TheVariants as reason
-use Rattle.tj_explain.specs.declared.reason.Wanted.{Wanted}
-use Rattle.tj_explain.specs.declared.reason.Wanted.TheVariants as wanted
+use Rattle.tj_reasons.specs.declared.reason.Met.{Met}
+use Rattle.tj_reasons.specs.declared.reason.Met.TheVariants as met
+use Rattle.tj_reasons.specs.declared.reason.Reason.{Reason}
+use Rattle.tj_reasons.specs.declared.reason.Reason.TheVariants as reason
+use Rattle.tj_reasons.specs.declared.reason.Wanted.{Wanted}
+use Rattle.tj_reasons.specs.declared.reason.Wanted.TheVariants as wanted
 
 -- why a task failed at a statement, if there is such a one
 abbrev pub reason_in : List Value → Option Statement → Option Reason

@@ -1,5 +1,5 @@
 -- What a text of a run looks things up in, and how it names a task, a promise and a position.
-use Rattle.std.specs.Prelude.{ℕ, Bool, List, [], ◌++◌, codes, decimal, map, slice_get, Option, Some, None}
+use Rattle.std.specs.Prelude.{ℕ, Bool, List, [], ◌++◌, codes, map, slice_get, Option, Some, None}
 use Rattle.std.specs.Option.{option_or}
 use Rattle.tj_base.specs.Texts.{name_text}
 use Rattle.tj_lex.specs.declared.place.Place.{Place}
@@ -11,6 +11,7 @@ use Rattle.tj_syntax.specs.Within.{within}
 use Rattle.tj_syntax.specs.declared.stmt.Stmt.{Stmt}
 use Rattle.tj_trace.specs.Lookups.{ask_spot_of, spot_of}
 use Rattle.tj_trace.specs.declared.line.Maker.{Maker}
+use Rattle.tj_faults.specs.Spots.{found_text}
 use Rattle.tj_explain.specs.Arguments.{arguments_text}
 use Rattle.tj_explain.specs.declared.finding.ToldTask.{ToldTask}
 use Rattle.tj_explain.specs.declared.scene.Scene.{Scene}
@@ -41,19 +42,10 @@ view s = record {
   short = s.short;
 }
 
--- a position
-abbrev pub place_text : Place → List ℕ
-place_text p = decimal p.line ++ codes ":" ++ decimal p.column
-
 -- where a statement of a declaration is told to stand, if there are such ones: at its ask, if it has one, and else at
 -- its first token; behind the last one, at the closing brace
 abbrev pub told_spot : Option PlacesOfTask → ℕ → Option Place
 told_spot t n = option_or (ask_spot_of t n) (spot_of t n)
-
--- its position, and a question mark where there is none
-abbrev pub found_text : Option Place → List ℕ
-found_text None = codes "?"
-found_text (Some p) = place_text p
 
 -- the position of the statement with this number in the declaration with that one
 abbrev pub spot_text : Told → ℕ → ℕ → List ℕ

@@ -10,9 +10,9 @@ use Rattle.tj_mean.specs.Outcomes.{IsOutcome}
 use Rattle.tj_mean.specs.declared.outcome.Ending.{Ending}
 use Rattle.tj_mean.specs.declared.outcome.Outcome.{Outcome}
 use Rattle.tj_trace.specs.Logs.{logged_program}
-use Rattle.tj_trace.specs.MadeAt.{placed_program}
+use Rattle.tj_trace.specs.MadeAt.{placed_program, values_of}
 use Rattle.tj_trace.specs.TraceLaws.{script_program}
-use Rattle.tj_trace.specs.Traces.{AreTraced}
+use Rattle.tj_trace.specs.Traces.{AreTraced, held_at}
 use Rattle.tj_trace.specs.declared.line.TraceLine.{TraceLine}
 use Rattle.tj_explain.specs.Explanations.{StoppedSo}
 use Rattle.tj_explain.specs.Findings.{findings_of, stop_of}
@@ -20,13 +20,15 @@ use Rattle.tj_explain.specs.Positions.{tasks_in}
 use Rattle.tj_explain.specs.declared.finding.ToldTask.{ToldTask}
 
 -- a task of the meaning stopped so, and the task told stopped at the statement where the history that knows its stand
--- has come to in the end
+-- has come to in the end; its variables held at first, and where it failed by `arith` or `kind`, what that history says
 pub record IsOfHistory (strict : Bool) (root : PlacedState) (N : ℕ) (t : ToldTask) : Type 0 where
-  pub stopped : (e : Ending) × (t.stop ≡ stop_of e) × StoppedSo (meaning (script_program strict root) N) t.name e
+  pub ending : Ending
+  pub stopped : (t.stop ≡ stop_of ending) × StoppedSo (meaning (script_program strict root) N) t.name ending
   pub stood : (u : Task PlacedState) → IsIn u (tasks (placed_program strict root) (last_round N)) → t.name ≡ u.name
       → let program = placed_program strict root in
-      let stand = (history program.rules (given program (last_round N)) u).body.stand in
-      (t.decl ≡ stand.decl) × (t.at ≡ stand.at)
+      let p = history program.rules (given program (last_round N)) u in
+      (t.decl ≡ p.body.stand.decl) × (t.at ≡ p.body.stand.at) × (t.began ≡ values_of p u.body.task.vars)
+      × (t.held ≡ held_at ending (values_of p p.body.task.vars))
 
 -- so is each task that is told
 abbrev pub TasksAreOfHistories : Bool → PlacedState → Type 0

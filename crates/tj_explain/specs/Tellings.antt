@@ -6,8 +6,9 @@ use Rattle.tj_mean.specs.declared.outcome.Outcome.{Outcome}
 use Rattle.tj_syntax.specs.declared.script_text.NoScript.{NoScript}
 use Rattle.tj_trace.specs.declared.line.TraceLine.{TraceLine}
 use Rattle.tj_explain.specs.DotTexts.{dot_text}
-use Rattle.tj_explain.specs.FaultWords.{told_fault_text}
-use Rattle.tj_explain.specs.JsonTexts.{fault_json, fine_json, full_json, told_json}
+use Rattle.tj_faults.specs.FaultJson.{fault_json}
+use Rattle.tj_faults.specs.FaultWords.{told_fault_text}
+use Rattle.tj_explain.specs.JsonTexts.{fine_json, full_json, told_json}
 use Rattle.tj_explain.specs.Scenes.{Told}
 use Rattle.tj_explain.specs.WhyTexts.{fine_text, told_text}
 use Rattle.tj_explain.specs.declared.telling.Telling.{Telling}

@@ -19,20 +19,25 @@ use Rattle.tj_syntax.specs.ScriptTexts.{IsScriptOf}
 use Rattle.tj_syntax.specs.Starts.{in_tasks}
 use Rattle.tj_syntax.specs.Trees.{Task}
 use Rattle.tj_trace.specs.MadeAt.{placed_program}
+use Rattle.tj_trace.specs.Logs.{logged_program}
 use Rattle.tj_trace.specs.TraceLaws.{script_program}
+use Rattle.tj_trace.specs.Traces.{AreTraced}
 use Rattle.tj_trace.specs.declared.line.Maker.{Maker}
+use Rattle.tj_trace.specs.declared.line.TraceLine.{TraceLine}
 use Rattle.tj_explain.specs.CellsTold.{IsCellToldRight, cells_in}
 use Rattle.tj_explain.specs.Consequences.{IsInOrder}
 use Rattle.tj_explain.specs.Explanations.{LeadsToToldCycle, OwnersAreNext, TellsEachOnce, cycles_in, told_waits_in}
 use Rattle.tj_explain.specs.Forests.{Forest, findings_in}
 use Rattle.tj_explain.specs.Origins.{BeginsEchoes, CameFrom}
 use Rattle.tj_explain.specs.Positions.{IsToldRight, tasks_in}
+use Rattle.tj_explain.specs.ReasonsTold.{IsToldWhy}
 use Rattle.tj_explain.specs.Scenes.{Told}
 use Rattle.tj_explain.specs.TasksTold.{IsOfHistory}
 use Rattle.tj_explain.specs.WhyLine.{IsCommand}
 use Rattle.tj_explain.specs.WhyOutput.{IsOutput, scene_of}
 use Rattle.tj_explain.specs.JsonTexts.{forest_json}
 use Rattle.tj_explain.specs.Tellings.{fine_told}
+use Rattle.tj_explain.specs.WentLaws.{WentThere}
 use Rattle.tj_explain.specs.WhyTexts.{forest_text}
 use Rattle.tj_explain.specs.declared.finding.Finding.{Finding}
 use Rattle.tj_explain.specs.declared.finding.Finding.TheVariants as finding
@@ -68,6 +73,13 @@ pub record Explains (script : List Task) (places : List PlacesOfTask) (strict : 
   -- each cell but the root's result has the statement that made it, with a position
   pub cells : (q : ToldCell) → IsIn q (flat_map cells_in fs)
       → IsCellToldRight script places (placed_program strict root) N q
+  -- where a promise went is told as the histories did it
+  pub went : (lines : List TraceLine) → AreTraced (logged_program strict root) N lines
+      → (t : ToldTask) (q : Name) (m : Option Maker) → IsIn (finding.Failed t (cause.Owner q) m) fs
+      → WentThere strict root N lines t q t.went
+  -- each failure by `arith` or `kind` has a reason that is told
+  pub reasons : (t : ToldTask) (c : Cause) (m : Option Maker) → IsIn (finding.Failed t c m) fs
+      → IsToldWhy script t c
 
 -- what is told of a forest: in words, of findings that are alike at once or of each, or as objects; a graph tells none
 abbrev pub forest_told : Told → Telling → Forest → List ℕ

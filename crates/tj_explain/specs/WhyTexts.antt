@@ -16,7 +16,7 @@ use Rattle.tj_mean.specs.declared.outcome.Outcome.{Outcome}
 use Rattle.tj_mean.specs.ReportTexts.{cause_text, line_feed}
 use Rattle.tj_trace.specs.declared.line.Maker.{Maker}
 use Rattle.tj_trace.specs.declared.line.TraceLine.{TraceLine}
-use Rattle.tj_explain.specs.Carets.{caret_at}
+use Rattle.tj_faults.specs.Carets.{caret_at}
 use Rattle.tj_explain.specs.Forests.{Forest, forest_of}
 use Rattle.tj_explain.specs.Groups.{Group, cell_named, cell_told, cells_told, groups, leaf_groups, maker_told}
 use Rattle.tj_explain.specs.Groups.{origin_told, same_maker, same_name, same_stand, tasks_told, waits_at}

@@ -1,4 +1,4 @@
-//! Which findings are told on one line, and what they say of their tasks.
+//! What findings say of their tasks, and whether two say the same.
 ghost use Rattle.std.specs.Prelude.{◌≡◌};
 ghost use Rattle.std.specs.Option.{option_map};
 ghost use Rattle.tj_explain.specs.Groups as spec;
@@ -12,28 +12,6 @@ pub fn same_stand(first: &ToldTask, second: &ToldTask) -> bool
     ensures { result ≡ spec.same_stand first.now second.now }
 {
     first.decl == second.decl && first.at == second.at
-}
-
-/// Whether the waits stand at the same statements, one by one.
-fn same_stands(first: &[Wait], second: &[Wait]) -> bool
-    ensures { result ≡ spec.same_stands first.now second.now }
-{
-    let mut left = first;
-    let mut others = second;
-    while let [wait, more @ ..] = left {
-        let [other, behind @ ..] = others else {
-            return false;
-        };
-        if !same_stand(&wait.task, &other.task) {
-            return false;
-        }
-        left = more;
-        others = behind;
-    }
-    match others {
-        [] => true,
-        [_, ..] => false,
-    }
 }
 
 /// Whether the same statement made both.
@@ -56,67 +34,6 @@ pub fn same_name(first: Option<&Name>, second: Option<&Name>) -> bool
         (Some(first), Some(second)) => *first == *second,
         (None, None) => true,
         (Some(_), None) | (None, Some(_)) => false,
-    }
-}
-
-/// The number of a cause's word.
-fn word_number(cause: &Cause) -> u32
-    ensures { result ≡ spec.word_number cause.now }
-{
-    match cause {
-        Cause::Arith => 0,
-        Cause::Kind => 1,
-        Cause::Steps => 2,
-        Cause::Owner(_) => 3,
-        Cause::Broken(_) => 4,
-        Cause::Order(_) => 5,
-    }
-}
-
-/// Whether the findings are of one kind, and say the same of tasks that stand at the same statement.
-pub fn are_alike(first: &Finding, second: &Finding) -> bool
-    ensures { result ≡ spec.alike first.now second.now }
-{
-    match (first, second) {
-        (Finding::Cycle(first), Finding::Cycle(second)) => {
-            same_stands(first.items(), second.items())
-        }
-        (Finding::Behind(first), Finding::Behind(second)) => same_stand(&first.task, &second.task),
-        (
-            Finding::Failed {
-                task: first,
-                cause: word,
-                about: _,
-            },
-            Finding::Failed {
-                task: second,
-                cause: other,
-                about: _,
-            },
-        ) => same_stand(first, second) && word_number(word) == word_number(other),
-        (
-            Finding::Owed {
-                promise: first,
-                owner: _,
-            },
-            Finding::Owed {
-                promise: second,
-                owner: _,
-            },
-        ) => same_maker(first.maker, second.maker),
-        (
-            Finding::Echo {
-                task: first,
-                cell: _,
-                origin: _,
-            },
-            Finding::Echo {
-                task: second,
-                cell: _,
-                origin: _,
-            },
-        ) => same_stand(first, second),
-        _ => false,
     }
 }
 

@@ -4,10 +4,10 @@ ghost use Rattle.tj_syntax.specs.View as trees;
 ghost use Rattle.tj_explain.specs.Arguments as spec;
 
 use crate::scene::Scene;
-use crate::texts::joined;
 use std::alloc::Global;
 use tj_base::{Items, Oom, add_signed};
 use tj_body::{Reference, Value};
+use tj_faults::joined;
 use tj_syntax::Decl;
 use tj_trace::ValueList;
 

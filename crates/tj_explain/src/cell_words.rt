@@ -7,9 +7,10 @@ use crate::finding::ToldCell;
 use crate::labels::spot_text;
 use crate::let_names::let_text;
 use crate::scene::Scene;
-use crate::texts::{joined, named};
+use crate::texts::named;
 use std::alloc::Global;
 use tj_base::{Name, Oom, Sort};
+use tj_faults::joined;
 use tj_trace::Maker;
 
 /// Who owns a promise, if somebody does.

@@ -1,16 +1,17 @@
 //! Steps from line to line: to which cycle waits lead, and by what a chain of echoes began.
 ghost use Rattle.std.specs.Prelude.{◌≡◌, IfOk, option_and_then, slice_get};
 ghost use Rattle.std.specs.Option.{option_map};
+ghost use Rattle.tj_explain.specs.Echoes as echoes;
 ghost use Rattle.tj_explain.specs.Echoes.{echoed_by, most_doublings};
 ghost use Rattle.tj_explain.specs.Forests as spec;
 ghost use Rattle.tj_explain.specs.Inner.Jumps.{AreJumps};
-ghost use Rattle.tj_explain.specs.Inner.Numbers.{IsNumberOf, IsSearchable};
+ghost use Rattle.tj_explain.specs.Inner.Numbers.{AreSteps, IsNumberOf, IsSearchable};
 ghost use Rattle.tj_explain.specs.Inner.Ways as ways;
 
 use crate::echoes::{back, echoed_by};
-use crate::jumps::{doubled_often, line_at};
+use crate::jumps::{jump, jumps_by, line_at, line_from, step};
 use crate::lookups::Lookups;
-use crate::searches::{breaker_of, owner_number};
+use crate::searches::{line_with, owner_number};
 use std::alloc::Global;
 use tj_base::{Name, Oom};
 use tj_mean::Ending;
@@ -21,8 +22,6 @@ use tj_trace::TraceLine;
 pub enum Way {
     /// From a task that waits to the owner of what it waits for.
     Ahead,
-    /// From an echo to the one from which it came, if that is an echo, too.
-    ToEchoes,
     /// From an echo to the task from whose end it came.
     Back,
 }
@@ -55,15 +54,6 @@ fn echo_only(lookups: &Lookups, number: Option<usize>) -> Option<usize>
     Some(number)
 }
 
-/// The number of the line of the task from whose end the failure of this one came, if that is an echo.
-fn echo_before(lookups: &Lookups, line: &TraceLine) -> Option<usize>
-    requires lookups { IsSearchable lookups.now }
-    ensures { IsNumberOf lookups.now.lines.now result
-        (spec.echo_before lookups.now.lines.now line.now) }
-{
-    echo_only(lookups, back(lookups, line))
-}
-
 /// The number of the line to which a step of this way leads from another.
 fn next(lookups: &Lookups, way: Way, line: &TraceLine) -> Option<usize>
     requires lookups { IsSearchable lookups.now }
@@ -72,33 +62,62 @@ fn next(lookups: &Lookups, way: Way, line: &TraceLine) -> Option<usize>
 {
     match way {
         Way::Ahead => ahead(lookups, line),
-        Way::ToEchoes => echo_before(lookups, line),
         Way::Back => back(lookups, line),
     }
 }
 
-/// The jumps of one step.
-fn single_steps(alloc: Global, lookups: &Lookups, way: Way) -> Result<Vec<usize>, Oom>
+/// The steps of this way.
+pub fn steps_of(alloc: Global, lookups: &Lookups, way: Way) -> Result<Vec<Option<usize>>, Oom>
     requires lookups { IsSearchable lookups.now }
-    ensures { IfOk result (λ jumps.
-        AreJumps lookups.now.lines.now (ways.next way lookups.now.lines.now) 0 jumps.items) }
+    ensures { IfOk result (λ steps.
+        AreSteps lookups.now.lines.now (ways.next way lookups.now.lines.now) steps.items) }
 {
-    let mut jumps = Vec::new(alloc);
+    let mut steps = Vec::new(alloc);
     for line in lookups.lines {
-        let number = jumps.len();
-        jumps.push(next(lookups, way, line).unwrap_or(number))?;
+        steps.push(next(lookups, way, line))?;
     }
-    Ok(jumps)
+    Ok(steps)
 }
 
-/// The jumps of as many steps as there can be tasks or rounds, and more.
+/// The jumps of this way.
 pub fn jumps_of(alloc: Global, lookups: &Lookups, way: Way) -> Result<Vec<usize>, Oom>
     requires lookups { IsSearchable lookups.now }
     ensures { IfOk result (λ jumps. AreJumps lookups.now.lines.now
         (ways.next way lookups.now.lines.now) most_doublings jumps.items) }
 {
-    let single = single_steps(alloc, lookups, way)?;
-    doubled_often(alloc, single)
+    let steps = steps_of(alloc, lookups, way)?;
+    jumps_by(alloc, steps.as_slice())
+}
+
+/// Of these steps back those that lead to an echo.
+fn steps_to_echoes(
+    alloc: Global,
+    lookups: &Lookups,
+    back: &[Option<usize>],
+) -> Result<Vec<Option<usize>>, Oom>
+    requires back { AreSteps lookups.now.lines.now (echoes.back lookups.now.lines.now) back.now }
+    ensures { IfOk result (λ steps.
+        AreSteps lookups.now.lines.now (spec.echo_before lookups.now.lines.now) steps.items) }
+{
+    let mut steps = Vec::new(alloc);
+    for step in back {
+        steps.push(echo_only(lookups, *step))?;
+    }
+    Ok(steps)
+}
+
+/// The jumps from echo to echo, where these are the steps back.
+pub fn jumps_to_echoes(
+    alloc: Global,
+    lookups: &Lookups,
+    back: &[Option<usize>],
+) -> Result<Vec<usize>, Oom>
+    requires back { AreSteps lookups.now.lines.now (echoes.back lookups.now.lines.now) back.now }
+    ensures { IfOk result (λ jumps. AreJumps lookups.now.lines.now
+        (spec.echo_before lookups.now.lines.now) most_doublings jumps.items) }
+{
+    let steps = steps_to_echoes(alloc, lookups, back)?;
+    jumps_by(alloc, steps.as_slice())
 }
 
 /// The line of the task on a cycle to which waits lead from the line with this number.
@@ -121,24 +140,49 @@ fn begun_with<'n>(cell: &'n Name, line: &'n TraceLine) -> &'n Name
     }
 }
 
-/// The name of the cause by which the chain of an echo began, where the first echo has this line.
-fn begun_at<'t>(lookups: &Lookups<'t>, first: &'t TraceLine) -> Option<&'t Name>
-    requires lookups { IsSearchable lookups.now }
-    ensures { option_map (λ name. name.now) result
-        ≡ option_and_then (spec.begun_at lookups.now.lines.now)
-        (echoed_by first.now.line.ending) }
+/// The name of the cause by which a chain began whose first echo has this line, where the task with
+/// the other line broke its cell.
+fn begun_at<'t>(first: &'t TraceLine, broke: Option<&'t TraceLine>) -> Option<&'t Name>
+    ensures { option_map (λ name. name.now) result ≡ option_and_then (λ q.
+        option_map (λ l. spec.begun_with q l l.line.ending)
+        (option_map (λ line. line.now) broke.entry)) (echoed_by first.now.line.ending) }
 {
     let cell = echoed_by(&first.line.ending)?;
-    Some(begun_with(cell, breaker_of(lookups, cell)?))
+    Some(begun_with(cell, broke?))
 }
 
 /// The name of the cause by which the chain of the echo began whose line has this number.
-pub fn begun_by<'t>(lookups: &Lookups<'t>, jumps: &[usize], number: usize) -> Option<&'t Name>
-    requires lookups { IsSearchable lookups.now }
+pub fn begun_by<'t>(
+    lookups: &Lookups<'t>,
+    back: &[Option<usize>],
+    jumps: &[usize],
+    number: usize,
+) -> Option<&'t Name>
+    requires back { AreSteps lookups.now.lines.now (echoes.back lookups.now.lines.now) back.now }
     requires jumps { AreJumps lookups.now.lines.now (spec.echo_before lookups.now.lines.now)
         most_doublings jumps.now }
     ensures { option_map (λ name. name.now) result ≡ option_and_then
         (spec.begun_by lookups.now.lines.now) (slice_get lookups.now.lines.now number) }
 {
-    begun_at(lookups, line_at(lookups.lines, jumps, number)?)
+    let first = line_at(lookups.lines, jumps, number)?;
+    let broke = line_with(lookups.lines, step(back, jump(jumps, number)));
+    begun_at(first, broke)
+}
+
+/// The line of the task from whose end the failure of the one with this number came at first.
+pub fn origin_of<'t>(
+    lookups: &Lookups<'t>,
+    back: &[Option<usize>],
+    jumps: &[usize],
+    number: usize,
+) -> Option<&'t TraceLine>
+    requires back { AreSteps lookups.now.lines.now (echoes.back lookups.now.lines.now) back.now }
+    requires jumps { AreJumps lookups.now.lines.now (echoes.back lookups.now.lines.now)
+        most_doublings jumps.now }
+    ensures { option_map (λ line. line.now) result
+        ≡ option_map (echoes.back_by lookups.now.lines.now most_doublings)
+        (option_and_then (echoes.back lookups.now.lines.now)
+        (slice_get lookups.now.lines.now number)) }
+{
+    line_from(lookups.lines, jumps, step(back, number))
 }

@@ -12,11 +12,12 @@ ghost use Rattle.tj_explain.specs.Scenes.{view};
 ghost use Rattle.tj_explain.specs.declared.finding.Finding as told;
 
 use crate::causes::{causes_of, numbers_of};
-use crate::chains::{Way, begun_by, jumps_of, led_to};
+use crate::chains::{Way, begun_by, jumps_of, jumps_to_echoes, led_to, origin_of, steps_of};
 use crate::echoes::echoed_by;
 use crate::finding::Finding;
 use crate::findings::{is_owing, told_debt, told_echo};
 use crate::forest::Forest;
+use crate::jumps::jumps_by;
 use crate::lookups::{Guide, Lookups, Numbers};
 use crate::members::{is_member, members_of};
 use crate::scene::Scene;
@@ -143,9 +144,11 @@ fn add_after_chain(
     let Some(cell) = echoed_by(&line.line.ending) else {
         return Ok(());
     };
-    let name = begun_by(&guide.lookups, guide.to_echoes.as_slice(), at);
+    let back = guide.steps.as_slice();
+    let name = begun_by(&guide.lookups, back, guide.to_echoes.as_slice(), at);
     let number = cause_number(guide, name);
-    let finding = told_echo(alloc, &guide.lookups, guide.back.as_slice(), line, cell)?;
+    let origin = origin_of(&guide.lookups, back, guide.back.as_slice(), at);
+    let finding = told_echo(alloc, &guide.lookups, line, cell, origin)?;
     forest.put(number, finding)?;
     add_debts(alloc, guide, number, line, forest)
 }
@@ -198,13 +201,15 @@ fn guide_of<'t>(
 {
     let members = members_of(alloc, cycles)?;
     let ahead = jumps_of(alloc, &lookups, Way::Ahead)?;
-    let to_echoes = jumps_of(alloc, &lookups, Way::ToEchoes)?;
-    let back = jumps_of(alloc, &lookups, Way::Back)?;
+    let steps = steps_of(alloc, &lookups, Way::Back)?;
+    let to_echoes = jumps_to_echoes(alloc, &lookups, steps.as_slice())?;
+    let back = jumps_by(alloc, steps.as_slice())?;
     Ok(Guide {
         lookups,
         members,
         causes,
         ahead,
+        steps,
         to_echoes,
         back,
     })

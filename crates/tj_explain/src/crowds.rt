@@ -10,10 +10,11 @@ use crate::alike::same_maker;
 use crate::finding::ToldTask;
 use crate::labels::{label, name_of, spot_text};
 use crate::scene::Scene;
-use crate::texts::{joined, named};
+use crate::texts::named;
 use std::alloc::Global;
 use tj_base::{Name, Oom};
 use tj_command::count_text;
+use tj_faults::joined;
 use tj_trace::Maker;
 
 /// Where the text speaks of one, or of several.

@@ -3,15 +3,14 @@ ghost use Rattle.std.specs.Prelude.{◌≡◌, ◌<◌, ◌+◌, ◌^◌, IfOk, 
 ghost use Rattle.tj_explain.specs.Scenes.{view};
 ghost use Rattle.tj_explain.specs.WhyTexts as spec;
 
-use crate::caret::caret_at;
 use crate::finding::{Finding, ToldTask, Wait};
 use crate::labels::told_spot;
 use crate::scene::Scene;
-use crate::texts::joined;
 use crate::wait_lines::{wait_text, waits_at};
 use std::alloc::Global;
 use tj_base::Oom;
 use tj_command::count_text;
+use tj_faults::{caret_at, joined};
 
 /// The most members that a cycle has which is told whole.
 const MOST_MEMBERS: usize = 20;

@@ -13,9 +13,10 @@ use crate::crowds::first_names;
 use crate::finding::{Finding, Stop, ToldCell, ToldTask};
 use crate::labels::{name_of, stop_text, task_at};
 use crate::scene::Scene;
-use crate::texts::{by_stop, joined};
+use crate::texts::by_stop;
 use std::alloc::Global;
 use tj_base::{Name, Oom};
+use tj_faults::joined;
 
 /// How a task stopped.
 fn stopped_word(stop: Stop) -> &'static [u8]

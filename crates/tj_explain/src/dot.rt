@@ -17,10 +17,11 @@ use crate::lookups::{Lookups, Members};
 use crate::members::is_member;
 use crate::scene::Scene;
 use crate::searches::line_named;
-use crate::texts::{joined, named};
+use crate::texts::named;
 use std::alloc::Global;
 use tj_base::{Name, Oom};
 use tj_command::count_text;
+use tj_faults::joined;
 use tj_mean::{Ending, TaskLine};
 use tj_trace::TraceLine;
 

@@ -12,9 +12,10 @@ use crate::failure_lines::{all_made, failed_text, of_cell};
 use crate::finding::{Finding, Stop, ToldCell, ToldTask};
 use crate::labels::stop_text;
 use crate::scene::Scene;
-use crate::texts::{by_stop, joined, named};
+use crate::texts::{by_stop, named};
 use std::alloc::Global;
 use tj_base::{Name, Oom};
+use tj_faults::joined;
 
 /// What the task did from whose end a failure came.
 fn end_word(stop: Stop) -> &'static [u8]

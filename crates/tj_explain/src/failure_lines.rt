@@ -16,10 +16,11 @@ use crate::finding::{Finding, ToldTask};
 use crate::labels::stop_text;
 use crate::reason_lines::all_reasons;
 use crate::scene::Scene;
-use crate::texts::{joined, named};
+use crate::texts::named;
 use crate::went_lines::all_went;
 use std::alloc::Global;
 use tj_base::{Cause, Name, Oom};
+use tj_faults::joined;
 use tj_trace::Maker;
 
 /// Why a task failed, in the words of a report.

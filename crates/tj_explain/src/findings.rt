@@ -1,11 +1,10 @@
 //! What went wrong with a run: the findings, each by the line that it is of.
 ghost use Rattle.std.specs.Prelude.{◌≡◌, ◌++◌, IfOk};
-ghost use Rattle.tj_explain.specs.Echoes.{back, most_doublings};
+ghost use Rattle.std.specs.Option.{option_map};
+ghost use Rattle.tj_explain.specs.Echoes as echoes;
 ghost use Rattle.tj_explain.specs.Findings as spec;
-ghost use Rattle.tj_explain.specs.Inner.Jumps.{AreJumps};
 ghost use Rattle.tj_explain.specs.Inner.Numbers.{IsSearchable};
 
-use crate::echoes::origin;
 use crate::finding::{Finding, Wait};
 use crate::lookups::Lookups;
 use crate::searches::line_of;
@@ -85,21 +84,21 @@ pub fn is_owing(ended: bool, ending: &Ending) -> bool
     }
 }
 
-/// The failure of a task for this cell, which is broken.
+/// The failure of a task for this cell, which is broken, with the line of the task where that began.
 pub fn told_echo(
     alloc: Global,
     lookups: &Lookups,
-    jumps: &[usize],
     line: &TraceLine,
     cell: &Name,
+    origin: Option<&TraceLine>,
 ) -> Result<Finding, Oom>
     requires lookups { IsSearchable lookups.now }
-    requires jumps { AreJumps lookups.now.lines.now (back lookups.now.lines.now) most_doublings
-        jumps.now }
+    requires origin { option_map (λ line. line.now) origin
+        ≡ echoes.origin lookups.now.lines.now cell.now }
     ensures { IfOk result (λ finding. finding
         ≡ spec.told_echo lookups.now.lines.now line.now cell.now) }
 {
-    let origin = told_task_if(alloc, lookups, origin(lookups, jumps, cell))?;
+    let origin = told_task_if(alloc, lookups, origin)?;
     let cell = told_cell(alloc, lookups, cell)?;
     let task = told_task(alloc, lookups, line)?;
     Ok(Finding::Echo { task, cell, origin })

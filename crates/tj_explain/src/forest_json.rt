@@ -8,8 +8,8 @@ ghost use Rattle.tj_explain.specs.Scenes.{view};
 use crate::forest::{Forest, Tree};
 use crate::json::{finding_json, findings_json};
 use crate::scene::Scene;
-use crate::texts::joined;
 use tj_base::Oom;
+use tj_faults::joined;
 
 /// A cause, and behind it what follows from it.
 fn tree_json(scene: &Scene, tree: &Tree) -> Result<Vec<u8>, Oom>

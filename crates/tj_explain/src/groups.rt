@@ -1,16 +1,20 @@
 //! Findings that are told on one line. A cause is put into the first group to which it belongs, and else
-//! it begins one.
-ghost use Rattle.std.specs.Prelude.{◌≡◌, ◌++◌, ◌∷◌, [], IfOk, cond, map, not};
-ghost use Rattle.std.specs.List.{prefix_len};
+//! it begins one. That group is found by a key in an ordered map.
+ghost use Rattle.std.specs.Prelude.{◌≡◌, ◌++◌, ◌∷◌, [], IfOk, cond, false, map, unwrap_or};
 ghost use Rattle.tj_explain.specs.Forests.{view_tree};
 ghost use Rattle.tj_explain.specs.Groups as spec;
+ghost use Rattle.tj_explain.specs.Inner.GroupKeys.{AreNumbered, found};
 ghost use Rattle.tj_explain.specs.Inner.GroupViews.{view, views};
 
-use crate::alike::are_alike;
 use crate::finding::Finding;
 use crate::forest::Tree;
+use crate::group_keys::key_of;
 use std::alloc::Global;
+use std::collections::BTreeMap;
 use tj_base::Oom;
+
+/// For each key of findings the number of the first group whose findings have it.
+type Keys = BTreeMap<Vec<usize>, usize>;
 
 /// Findings that are told on one line, and what follows from them.
 #[derive(Drop)]
@@ -53,50 +57,35 @@ fn alone<'f>(alloc: Global, root: &'f Finding, below: &'f [Finding]) -> Result<G
     Ok(group)
 }
 
-/// Whether the finding is like the first of these.
-fn belongs(finding: &Finding, members: &[&Finding]) -> bool
-    ensures { result ≡ spec.belongs finding.now (map (λ f. f.now) members.now) }
+/// The number of the group of findings with this key, and else the number behind so many groups.
+fn number_of(numbers: &Keys, key: &Vec<usize>, count: usize) -> usize
+    ensures { result ≡ unwrap_or (found numbers.now key.now) count }
 {
-    match members {
-        [first, ..] => are_alike(*first, finding),
-        [] => false,
-    }
-}
-
-/// Whether the finding doesn't belong to the group.
-fn is_apart(finding: &Finding, group: &Group) -> bool
-    ensures { result ≡ not (spec.belongs finding.now (view group.now).members) }
-{
-    !belongs(finding, group.members.as_slice())
-}
-
-/// How many groups stand in front of the first to which the finding belongs.
-fn groups_before(groups: &[Group], finding: &Finding) -> usize
-    ensures { result ≡ prefix_len (λ g. not (spec.belongs finding.now (view g).members)) groups.now }
-{
-    groups
-        .iter()
-        .take_while(|group| is_apart(finding, *group))
-        .count()
+    numbers.get(key).copied().unwrap_or(count)
 }
 
 /// One cause more in the groups, and what follows from it.
 fn put_grouped<'f>(
     alloc: Global,
     groups: &mut Vec<Group<'f>>,
+    numbers: &mut Keys,
     root: &'f Finding,
     below: &'f [Finding],
 ) -> Result<(), Oom>
-    ensures { IfOk result (λ _. views groups.new.items ≡ spec.grouped (views groups.old.items)
-        (record { root = root.now; below = below.now })) }
+    requires numbers { AreNumbered groups.now.items numbers.now }
+    ensures put { IfOk result (λ _. views groups.new.items ≡ spec.grouped
+        (views groups.old.items) (record { root = root.now; below = below.now })) }
+    ensures numbers { IfOk result (λ _. AreNumbered groups.new.items numbers.new) }
 {
-    let number = groups_before(groups.as_slice(), root);
+    let key = key_of(alloc, root)?;
+    let number = number_of(numbers, &key, groups.len());
     if number < groups.len() {
         groups[number].put(root, below)?;
         return Ok(());
     }
     let group = alone(alloc, root, below)?;
     groups.push(group)?;
+    numbers.insert(key, number)?;
     Ok(())
 }
 
@@ -105,15 +94,19 @@ fn put<'f>(
     alloc: Global,
     all: bool,
     groups: &mut Vec<Group<'f>>,
+    numbers: &mut Keys,
     root: &'f Finding,
     below: &'f [Finding],
 ) -> Result<(), Oom>
-    ensures { IfOk result (λ _. views groups.new.items ≡ cond all
+    requires numbers { all ≡ false → AreNumbered groups.now.items numbers.now }
+    ensures numbers { IfOk result (λ _.
+        all ≡ false → AreNumbered groups.new.items numbers.new) }
+    ensures put { IfOk result (λ _. views groups.new.items ≡ cond all
         (views groups.old.items ++ spec.alone (record { root = root.now; below = below.now }) ∷ [])
         (spec.grouped (views groups.old.items) (record { root = root.now; below = below.now }))) }
 {
     if !all {
-        return put_grouped(alloc, groups, root, below);
+        return put_grouped(alloc, groups, numbers, root, below);
     }
     groups.push(alone(alloc, root, below)?)?;
     Ok(())
@@ -125,8 +118,16 @@ pub fn groups_of(alloc: Global, all: bool, trees: &[Tree]) -> Result<Vec<Group<'
         ≡ spec.groups all (map view_tree trees.now)) }
 {
     let mut groups = Vec::new(alloc);
+    let mut numbers = BTreeMap::new(alloc);
     for tree in trees {
-        put(alloc, all, &mut groups, &tree.root, tree.below.as_slice())?;
+        put(
+            alloc,
+            all,
+            &mut groups,
+            &mut numbers,
+            &tree.root,
+            tree.below.as_slice(),
+        )?;
     }
     Ok(groups)
 }
@@ -141,8 +142,9 @@ pub fn leaf_groups<'f>(
         ≡ spec.leaf_groups all (map (λ f. f.now) findings.now)) }
 {
     let mut groups = Vec::new(alloc);
+    let mut numbers = BTreeMap::new(alloc);
     for finding in findings {
-        put(alloc, all, &mut groups, *finding, &[])?;
+        put(alloc, all, &mut groups, &mut numbers, *finding, &[])?;
     }
     Ok(groups)
 }

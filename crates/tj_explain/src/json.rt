@@ -7,27 +7,19 @@ ghost use Rattle.tj_explain.specs.Scenes.{view};
 
 use crate::failure_lines::cause_word;
 use crate::finding::{Finding, ToldCell, ToldTask, Wait};
-use crate::json_parts::{cell_json, quoted, task_if_json, task_json, wait_json, waits_json};
+use crate::json_parts::{cell_json, task_if_json, task_json, wait_json, waits_json};
 use crate::reason_lines::{reason_for, reason_words};
 use crate::scene::Scene;
-use crate::texts::joined;
 use std::alloc::Global;
 use tj_base::{Cause, Oom, add_count};
+use tj_faults::{begin_object, joined, quoted};
 use tj_trace::Maker;
-
-/// The beginning of an object of this kind.
-pub fn begin(alloc: Global, kind: &[u8]) -> Result<Vec<u8>, Oom>
-    ensures { IfOk result (λ json. json.items ≡ spec.begin kind.now) }
-{
-    let kind = quoted(alloc, kind)?;
-    joined(alloc, &[b"{\"kind\":", kind.as_slice()])
-}
 
 /// The beginning of an object of this kind for a finding of this level.
 fn begin_at(alloc: Global, level: u32, kind: &[u8]) -> Result<Vec<u8>, Oom>
     ensures { IfOk result (λ json. json.items ≡ spec.begin_at level kind.now) }
 {
-    let begin = begin(alloc, kind)?;
+    let begin = begin_object(alloc, kind)?;
     let mut number = Vec::new(alloc);
     add_count(&mut number, b",\"level\":", level as u128)?;
     joined(alloc, &[begin.as_slice(), number.as_slice()])
@@ -280,7 +272,7 @@ pub fn findings_json(scene: &Scene, level: u32, findings: &[Finding]) -> Result<
 fn count_json(alloc: Global, kind: &[u8], what: &[u8], count: u128) -> Result<Vec<u8>, Oom>
     ensures { IfOk result (λ json. json.items ≡ spec.count_json kind.now what.now count) }
 {
-    let begin = begin(alloc, kind)?;
+    let begin = begin_object(alloc, kind)?;
     let mut number = Vec::new(alloc);
     add_count(&mut number, b"\":", count)?;
     joined(

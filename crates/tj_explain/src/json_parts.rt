@@ -2,6 +2,7 @@
 ghost use Rattle.std.specs.Prelude.{◌≡◌, IfOk};
 ghost use Rattle.std.specs.List.{flat_map};
 ghost use Rattle.tj_base.specs.Texts.{name_text};
+ghost use Rattle.tj_faults.specs.Objects as objects;
 ghost use Rattle.tj_explain.specs.JsonTexts as spec;
 ghost use Rattle.tj_explain.specs.Scenes.{view};
 
@@ -10,21 +11,15 @@ use crate::finding::{ToldCell, ToldTask, Wait};
 use crate::labels::{name_of, spot_text, stop_text};
 use crate::let_names::let_name;
 use crate::scene::Scene;
-use crate::texts::{by_stop, joined, named};
+use crate::texts::{by_stop, named};
 use std::alloc::Global;
 use tj_base::{Name, Oom};
+use tj_faults::{joined, quoted};
 use tj_trace::Maker;
-
-/// A text in quotes.
-pub fn quoted(alloc: Global, text: &[u8]) -> Result<Vec<u8>, Oom>
-    ensures { IfOk result (λ json. json.items ≡ spec.quoted text.now) }
-{
-    joined(alloc, &[b"\"", text, b"\""])
-}
 
 /// A name in quotes.
 pub fn quoted_name(alloc: Global, name: &Name) -> Result<Vec<u8>, Oom>
-    ensures { IfOk result (λ json. json.items ≡ spec.quoted (name_text name.now)) }
+    ensures { IfOk result (λ json. json.items ≡ objects.quoted (name_text name.now)) }
 {
     let mut json = named(alloc, b"\"", name)?;
     json.push(b'"')?;

@@ -4,7 +4,9 @@ ghost use Rattle.std.specs.Prelude.{◌≡◌, IfOk, List, Option, map, option_a
 ghost use Rattle.std.specs.Option.{option_map};
 ghost use Rattle.tj_trace.specs.declared.line.TraceLine.{TraceLine};
 ghost use Rattle.tj_explain.specs.Echoes.{most_doublings};
-ghost use Rattle.tj_explain.specs.Inner.Jumps.{AreJumps, jump};
+ghost use Rattle.std.specs.Prelude.{None, get_or, length, unwrap_or};
+ghost use Rattle.tj_explain.specs.Inner.Jumps.{AreEach, AreJumps, jump};
+ghost use Rattle.tj_explain.specs.Inner.Numbers.{AreSteps};
 
 use std::alloc::Global;
 use tj_base::Oom;
@@ -13,8 +15,18 @@ use tj_trace::TraceLine;
 /// How often steps are doubled: a run of 2 ^ 20 cells has 2 ^ 21 + 1 rounds, and so many steps lead on.
 const MOST_DOUBLINGS: usize = 21;
 
+/// Where a step from this number leads, if there is one.
+pub fn step(steps: &[Option<usize>], from: usize) -> Option<usize>
+    ensures { result ≡ get_or steps.now from None }
+{
+    match steps.get(from) {
+        Some(to) => *to,
+        None => None,
+    }
+}
+
 /// Where a jump from this number leads.
-fn jump(jumps: &[usize], from: usize) -> usize
+pub fn jump(jumps: &[usize], from: usize) -> usize
     ensures { result ≡ jump jumps.now from }
 {
     match jumps.get(from) {
@@ -34,18 +46,44 @@ fn doubled(alloc: Global, jumps: &[usize]) -> Result<Vec<usize>, Oom>
     Ok(more)
 }
 
-/// The jumps of as many steps as there can be, where these are of one step.
-pub fn doubled_often(alloc: Global, single: Vec<usize>) -> Result<Vec<usize>, Oom>
+/// The jumps of as many steps as there can be, where these are of one step. Jumps that lead no
+/// further when they are doubled are those of more steps, too.
+fn doubled_often(alloc: Global, single: Vec<usize>) -> Result<Vec<usize>, Oom>
     ensures { IfOk result (λ jumps. (lines : List TraceLine) (f : TraceLine → Option TraceLine)
         → AreJumps lines f 0 single.items → AreJumps lines f most_doublings jumps.items) }
 {
     let mut jumps = single;
     let mut left = MOST_DOUBLINGS;
     while left > 0 {
-        jumps = doubled(alloc, jumps.as_slice())?;
+        let more = doubled(alloc, jumps.as_slice())?;
+        if more == jumps {
+            return Ok(jumps);
+        }
+        jumps = more;
         left -= 1;
     }
     Ok(jumps)
+}
+
+/// The jumps of one step. Where no step leads on they stay.
+fn single(alloc: Global, steps: &[Option<usize>]) -> Result<Vec<usize>, Oom>
+    ensures { IfOk result (λ jumps. AreEach (λ n to. to ≡ unwrap_or (get_or steps.now n None) n)
+        (λ n. n) (length steps.now) jumps.items) }
+{
+    let mut jumps = Vec::new(alloc);
+    for (number, step) in steps.iter().enumerate() {
+        jumps.push((*step).unwrap_or(number))?;
+    }
+    Ok(jumps)
+}
+
+/// The jumps of as many steps as there can be tasks or rounds, and more.
+pub fn jumps_by(alloc: Global, steps: &[Option<usize>]) -> Result<Vec<usize>, Oom>
+    ensures { IfOk result (λ jumps. (lines : List TraceLine) (f : TraceLine → Option TraceLine)
+        → AreSteps lines f steps.now → AreJumps lines f most_doublings jumps.items) }
+{
+    let jumps = single(alloc, steps)?;
+    doubled_often(alloc, jumps)
 }
 
 /// The line where a jump from this number leads.

@@ -6,22 +6,13 @@ ghost use Rattle.tj_explain.specs.Scenes as spec;
 use crate::arguments::arguments_text;
 use crate::finding::ToldTask;
 use crate::scene::Scene;
-use crate::texts::{joined, named};
+use crate::texts::named;
 use std::alloc::Global;
-use tj_base::{Oom, add_count, add_number};
+use tj_base::Oom;
+use tj_faults::{joined, place_text};
 use tj_lex::Place;
 use tj_syntax::Script;
 use tj_trace::{Maker, ask_spot, spot};
-
-/// A position.
-pub fn place_text(alloc: Global, place: Place) -> Result<Vec<u8>, Oom>
-    ensures { IfOk result (λ text. text.items ≡ spec.place_text place) }
-{
-    let mut text = Vec::new(alloc);
-    add_number(&mut text, place.line as u128)?;
-    add_count(&mut text, b":", place.column as u128)?;
-    Ok(text)
-}
 
 /// Where the statement with this number in the declaration with that one is told to stand: at its
 /// ask, if it has one.

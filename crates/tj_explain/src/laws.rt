@@ -10,9 +10,10 @@ ghost use Rattle.tj_explain.specs.Explanations.{CycleOwnersAreNext, FindingsTell
 ghost use Rattle.tj_explain.specs.Explanations.{NothingIsFoundWhereFine, WaitsLeadToToldCycles};
 ghost use Rattle.tj_explain.specs.Origins.{EchoesHaveOrigins, EchoesNameEarlierCells};
 ghost use Rattle.tj_explain.specs.Positions.{TasksAreToldRight};
-ghost use Rattle.tj_explain.specs.ReasonLaws.{ReasonsAreRight};
+ghost use Rattle.tj_explain.specs.ReasonsTold.{ReasonsAreTold};
 ghost use Rattle.tj_explain.specs.TasksTold.{TasksAreOfHistories};
 ghost use Rattle.tj_explain.specs.ToldFindings.{TextsTellFindings};
+ghost use Rattle.tj_explain.specs.WentLaws.{PromisesWentThere};
 ghost use Rattle.tj_explain.specs.WhyOutput.{IsOutput};
 
 use tj_body::waits_lead_to_a_cycle;
@@ -88,7 +89,8 @@ pub fn echoes_name_earlier_cells()
 pub fn tasks_are_of_histories()
     // Law: each task that a finding tells is told to have ended, failed or waited as its history
     // did, and at the statement to which the history of the body that knows its stand has come in
-    // the end.
+    // the end. The values that its variables are told to have held at first, and where it failed by
+    // `arith` or `kind` in the end, are those of that history.
     ensures { (strict : Bool) (root : PlacedState) → TasksAreOfHistories strict root }
 {}
 
@@ -128,6 +130,26 @@ pub fn consequences_follow()
     waits_lead_to_a_cycle::<ScriptBody>();
 }
 
+/// Where a promise went that a task had no right to is told as the histories did it.
+pub fn promises_went_there()
+    // Law: of a failure for a promise that the task didn't own, what is told of where this went is
+    // so: the task itself owed it; or, if it didn't owe it, its history set it, where it stood at the
+    // statement told; or it never set it and handed it on, to the child that is told, which its history
+    // made at the statement told. Only if it did none of these another task is told: one of the run
+    // whose history set it, where it stood at the statement told; or, if no task set it, one that owned
+    // it where it stopped. Nothing is told only if no task set it, and none owned it where it stopped.
+    ensures { (strict : Bool) (root : PlacedState) → PromisesWentThere strict root }
+{}
+
+/// Each failure by `arith` or `kind` is told with a reason.
+pub fn reasons_are_told()
+    // Law: in a run from the body of `main` on of each task that is told to have failed by `arith`
+    // or `kind` a reason is found, and it tells of this fault. It is computed of the statement and the
+    // variables' values that the finding has. These are those of the task's history, by the law
+    // `tasks_are_of_histories`.
+    ensures { ReasonsAreTold }
+{}
+
 /// What is told of a run in words or objects is a forest of findings, which explain the run.
 pub fn texts_tell_findings()
     // Law: an output in words or in objects of JSON whose status is that of an outcome is of a script.
@@ -142,11 +164,3 @@ pub fn texts_tell_findings()
     waits_lead_to_told_cycles();
     consequences_follow();
 }
-
-/// Why an expression came to nothing, and why a statement failed as it began, is told rightly.
-pub fn reasons_are_right()
-    // Law: of what the variables of a task held, an expression has a reason exactly where it has no
-    // value, and the reason tells of the fault for which it has none; and so does that of a
-    // statement that fails as it begins, if what it forks is declared with as many parameters.
-    ensures { ReasonsAreRight }
-{}

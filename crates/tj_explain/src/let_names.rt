@@ -7,8 +7,8 @@ ghost use Rattle.tj_explain.specs.Scenes.{view};
 
 use crate::scene::Scene;
 use crate::statements::statement_at;
-use crate::texts::joined;
 use tj_base::Oom;
+use tj_faults::joined;
 use tj_syntax::{Call, Decl, Rhs, Stmt};
 use tj_trace::Maker;
 

@@ -4,7 +4,6 @@
 
 mod alike;
 mod arguments;
-mod caret;
 mod causes;
 mod cell_words;
 mod chains;
@@ -16,13 +15,10 @@ mod dot;
 mod echo_lines;
 mod echoes;
 mod failure_lines;
-mod fault_json;
-mod fault_words;
 mod finding;
 mod findings;
 mod forest;
 mod forest_json;
-mod fronts;
 mod groups;
 mod json;
 mod json_parts;
@@ -35,9 +31,7 @@ mod line_word;
 mod lookups;
 mod members;
 mod owners;
-mod reason;
 mod reason_lines;
-mod reasons;
 mod replies;
 mod scene;
 mod searches;
@@ -48,9 +42,7 @@ mod told;
 mod told_parts;
 mod top_call;
 mod usage;
-mod values;
 mod wait_lines;
-mod wanted;
 mod went;
 mod went_lines;
 mod why;
@@ -60,8 +52,9 @@ mod words;
 pub use laws::{
     cells_are_told_right, consequences_follow, cycle_owners_are_next, echoes_have_origins,
     echoes_name_earlier_cells, findings_tell_each_once, forests_hold_each_finding,
-    groups_hold_each_finding, nothing_is_found_where_fine, one_output, reasons_are_right,
-    tasks_are_of_histories, tasks_are_told_right, texts_tell_findings, waits_lead_to_told_cycles,
+    groups_hold_each_finding, nothing_is_found_where_fine, one_output, promises_went_there,
+    reasons_are_told, tasks_are_of_histories, tasks_are_told_right, texts_tell_findings,
+    waits_lead_to_told_cycles,
 };
 pub use line::{WhyCommand, command_of};
 pub use telling::Telling;
@@ -69,4 +62,5 @@ pub use told::told_of_text;
 pub use top_call::why_words;
 pub use words::why_given;
 
+mod group_keys;
 mod parsed;

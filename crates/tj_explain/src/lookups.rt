@@ -33,6 +33,8 @@ pub struct Guide<'t> {
     pub members: Members<'t>,
     pub causes: Numbers,
     pub ahead: Vec<usize>,
+    /// The step back from each echo.
+    pub steps: Vec<Option<usize>>,
     pub to_echoes: Vec<usize>,
     pub back: Vec<usize>,
 }

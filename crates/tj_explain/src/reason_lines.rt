@@ -7,17 +7,17 @@ ghost use Rattle.tj_explain.specs.ReasonTexts as spec;
 ghost use Rattle.tj_explain.specs.Scenes as stands;
 ghost use Rattle.tj_explain.specs.Scenes.{view};
 ghost use Rattle.tj_explain.specs.WhyTexts as texts;
-ghost use Rattle.tj_explain.specs.Reasons.{held_in};
+ghost use Rattle.tj_reasons.specs.Reasons.{held_in};
 
 use crate::finding::ToldTask;
-use crate::reason::{Met, Reason, Wanted};
-use crate::reasons::failed_at;
 use crate::scene::Scene;
 use crate::statements::statement_at;
-use crate::texts::{joined, named};
+use crate::texts::named;
 use std::alloc::Global;
 use tj_base::{Cause, Oom, Sort, add_signed};
 use tj_body::Value;
+use tj_faults::joined;
+use tj_reasons::{Met, Reason, Wanted, failed_at};
 
 /// Why a task failed at the statement where it stopped, if there is such a statement.
 fn reason_at(scene: &Scene, task: &ToldTask) -> Option<Reason>

@@ -4,14 +4,13 @@ ghost use Rattle.std.specs.Prelude.{◌≡◌, IfOk};
 ghost use Rattle.tj_syntax.specs.ScriptTexts.{IsMemory};
 ghost use Rattle.tj_explain.specs.Tellings as spec;
 
-use crate::fault_json::fault_json;
-use crate::fault_words::told_fault_text;
 use crate::json::{fine_json, full_json};
 use crate::telling::Telling;
 use crate::why_lines::fine_text;
 use std::alloc::Global;
 use tj_base::Oom;
 use tj_command::full_line;
+use tj_faults::{fault_json, told_fault_text};
 use tj_lex::Token;
 use tj_syntax::NoScript;
 

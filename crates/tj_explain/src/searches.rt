@@ -1,6 +1,6 @@
 //! What is looked up in a trace by the name of a task or of a cell: a task by halving the lines, and
 //! an owner in an ordered map.
-ghost use Rattle.std.specs.Prelude.{◌≡◌, slice_get, option_and_then};
+ghost use Rattle.std.specs.Prelude.{◌≡◌, IsTrue, Some, slice_get, option_and_then};
 ghost use Rattle.std.specs.Cmp.Lexicographic.{slice_cmp};
 ghost use Rattle.std.specs.Option.{option_map};
 ghost use Rattle.std.specs.Ordering.{nat_cmp};
@@ -24,11 +24,24 @@ fn compared(line: &TraceLine, name: &[u32]) -> Ordering
     line.line.name.parts().cmp(name)
 }
 
+/// Whether the first line is that of the task with a name of these numbers, as it is of the root.
+fn is_first(lines: &[TraceLine], name: &[u32]) -> bool
+    ensures { IsTrue result → IsNumberOf lines.now (Some 0) (spec.line_of lines.now name.now) }
+{
+    match lines {
+        [first, ..] => first.line.name.parts() == name,
+        [] => false,
+    }
+}
+
 /// The number of the line of the task with a name of these numbers.
 fn number_of(lines: &[TraceLine], name: &[u32]) -> Option<usize>
     requires { Ascend (names_of lines.now) }
     ensures { IsNumberOf lines.now result (spec.line_of lines.now name.now) }
 {
+    if is_first(lines, name) {
+        return Some(0);
+    }
     match lines.binary_search_by(|line| compared(line, name)) {
         Ok(number) => Some(number),
         Err(_) => None,
@@ -36,7 +49,7 @@ fn number_of(lines: &[TraceLine], name: &[u32]) -> Option<usize>
 }
 
 /// The line with this number.
-fn line_with(lines: &[TraceLine], number: Option<usize>) -> Option<&TraceLine>
+pub fn line_with(lines: &[TraceLine], number: Option<usize>) -> Option<&TraceLine>
     ensures { option_map (λ line. line.now) result
         ≡ option_and_then (slice_get lines.now) number }
 {
@@ -98,16 +111,6 @@ pub fn breaker(lookups: &Lookups, cell: &Name) -> Option<usize>
         (echoes.breaker lookups.now.lines.now cell.now) }
 {
     owner_number(lookups, cell).or(number_of(lookups.lines, cell.parts()))
-}
-
-/// The line of the task whose end broke the cell.
-#[tactic(auto, using(crate::proofs::LineNumbers::at_number))]
-pub fn breaker_of<'t>(lookups: &Lookups<'t>, cell: &Name) -> Option<&'t TraceLine>
-    requires lookups { IsSearchable lookups.now }
-    ensures { option_map (λ line. line.now) result
-        ≡ echoes.breaker lookups.now.lines.now cell.now }
-{
-    line_with(lookups.lines, breaker(lookups, cell))
 }
 
 /// The statement that made the cell with this name.

@@ -1,23 +1,11 @@
-//! Texts put together, and chosen.
-ghost use Rattle.std.specs.Prelude.{◌≡◌, ◌++◌, IfOk, map};
+//! A text with a name, and one of three.
+ghost use Rattle.std.specs.Prelude.{◌≡◌, ◌++◌, IfOk};
 ghost use Rattle.tj_base.specs.Texts.{name_text};
-ghost use Rattle.tj_explain.specs.Inner.Joined as spec;
-ghost use Rattle.tj_explain.specs.WhyTexts as why_texts;
+ghost use Rattle.tj_explain.specs.WhyTexts as spec;
 
 use crate::finding::Stop;
 use std::alloc::Global;
 use tj_base::{Name, Oom};
-
-/// These texts, one behind the other.
-pub fn joined(alloc: Global, parts: &[&[u8]]) -> Result<Vec<u8>, Oom>
-    ensures { IfOk result (λ text. text.items ≡ spec.joined (map (λ part. part.now) parts.now)) }
-{
-    let mut text = Vec::new(alloc);
-    for part in parts {
-        text.extend_from_slice(part)?;
-    }
-    Ok(text)
-}
 
 /// These bytes and the name of a cell.
 pub fn named(alloc: Global, before: &[u8], name: &Name) -> Result<Vec<u8>, Oom>
@@ -35,7 +23,7 @@ pub fn by_stop(
     failed: &'static [u8],
     waits: &'static [u8],
 ) -> &'static [u8]
-    ensures { result.now ≡ why_texts.by_stop stop ended.now failed.now waits.now }
+    ensures { result.now ≡ spec.by_stop stop ended.now failed.now waits.now }
 {
     match stop {
         Stop::Ended => ended,

@@ -13,9 +13,10 @@ use crate::crowds::{one_or, tasks_named};
 use crate::finding::{Finding, ToldTask, Wait};
 use crate::labels::stop_text;
 use crate::scene::Scene;
-use crate::texts::{joined, named};
+use crate::texts::named;
 use std::alloc::Global;
 use tj_base::Oom;
+use tj_faults::joined;
 
 /// Whether the waits are for one cell.
 fn one_cell(first: &Wait, waits: &[&Wait]) -> bool

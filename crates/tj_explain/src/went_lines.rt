@@ -12,9 +12,10 @@ ghost use Rattle.tj_explain.specs.WhyTexts as texts;
 use crate::finding::{ToldTask, Went};
 use crate::labels::spot_text;
 use crate::scene::Scene;
-use crate::texts::{joined, named};
+use crate::texts::named;
 use std::alloc::Global;
 use tj_base::{Name, Oom, add_count};
+use tj_faults::joined;
 
 /// Where a promise went for which a task of this declaration failed.
 fn went_text(scene: &Scene, decl: usize, went: &Went) -> Result<Vec<u8>, Oom>

@@ -15,10 +15,10 @@ use crate::finding::Finding;
 use crate::forest::{Forest, Tree};
 use crate::groups::{Group, groups_of, leaf_groups};
 use crate::scene::Scene;
-use crate::texts::joined;
 use crate::wait_lines::behind_line;
 use std::alloc::Global;
 use tj_base::Oom;
+use tj_faults::joined;
 
 /// What is told of findings that are alike, of which this is the first.
 fn alike_text(

@@ -1,5 +1,5 @@
 -- Lines of a trace by their numbers, and an ordered map from cells to such numbers.
-use Rattle.std.specs.Prelude.{◌≡◌, ℕ, List, drop, Option, Some, None, slice_get}
+use Rattle.std.specs.Prelude.{◌≡◌, ℕ, List, drop, length, Option, Some, None, option_and_then, slice_get}
 use Rattle.std.specs.List.{position_from}
 use Rattle.std.specs.Option.{is_some}
 use Rattle.std.specs.BTreeMap.{BTreeMap, get}
@@ -14,7 +14,7 @@ use Rattle.tj_trace.specs.declared.line.TraceLine.{TraceLine}
 use Rattle.tj_explain.specs.Echoes.{back, most_doublings}
 use Rattle.tj_explain.specs.Findings.{is_member}
 use Rattle.tj_explain.specs.Forests.{ahead, awaited_from, cause_from, echo_before, names_of_cause}
-use Rattle.tj_explain.specs.Inner.Jumps.{AreJumps}
+use Rattle.tj_explain.specs.Inner.Jumps.{AreEach, AreJumps}
 use Rattle.tj_explain.specs.Searches.{owner_of}
 use Rattle.tj_explain.specs.Went.{setter_of}
 use Rattle.tj_explain.specs.declared.finding.Finding.{Finding}
@@ -27,6 +27,11 @@ use Rattle.tj_explain.specs.declared.lookups.Members.{Members}
 abbrev pub IsNumberOf : List TraceLine → Option ℕ → Option TraceLine → Type 0
 IsNumberOf lines None found = found ≡ None
 IsNumberOf lines (Some n) found = (l : TraceLine) × (slice_get lines n ≡ Some l) × (found ≡ Some l)
+
+-- for the number of each line the list has the number of that to which a step leads, and none where no step does
+abbrev pub AreSteps : List TraceLine → (TraceLine → Option TraceLine) → List (Option ℕ) → Type 0
+AreSteps lines f steps =
+    AreEach (λ n s. IsNumberOf lines s (option_and_then f (slice_get lines n))) (λ n. None) (length lines) steps
 
 -- the number that the map has for a cell
 abbrev pub number_in : BTreeMap (List ℕ) ℕ → Name → Option ℕ
@@ -71,5 +76,6 @@ pub record IsGuide (g : Guide) : Type 0 where
   pub searchable : IsSearchable g.lookups
   pub members : HasMembers g.members
   pub ahead : AreJumps g.lookups.lines.now (ahead g.lookups.lines.now) most_doublings g.ahead.items
+  pub steps : AreSteps g.lookups.lines.now (back g.lookups.lines.now) g.steps.items
   pub to_echoes : AreJumps g.lookups.lines.now (echo_before g.lookups.lines.now) most_doublings g.to_echoes.items
   pub back : AreJumps g.lookups.lines.now (back g.lookups.lines.now) most_doublings g.back.items

@@ -2,12 +2,11 @@
 use Rattle.std.specs.Prelude.{List, Option}
 use Rattle.tj_trace.specs.declared.line.TraceLine.{TraceLine}
 use Rattle.tj_explain.specs.Echoes.{back}
-use Rattle.tj_explain.specs.Forests.{ahead, echo_before}
+use Rattle.tj_explain.specs.Forests.{ahead}
 use Rattle.tj_explain.specs.declared.chains.Way.{Way}
 use Rattle.tj_explain.specs.declared.chains.Way.TheVariants as way
 
 -- the line to which a step of this way leads
 abbrev pub next : Way → List TraceLine → TraceLine → Option TraceLine
 next way.Ahead = ahead
-next way.ToEchoes = echo_before
 next way.Back = back

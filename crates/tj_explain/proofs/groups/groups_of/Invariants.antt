@@ -1,9 +1,11 @@
-use Rattle.std.proofs.Common.{◌≡◌, map, take}
+use Rattle.std.proofs.Common.{◌≡◌, false, map, take}
 use Rattle.tj_explain.specs.Forests.{view_tree}
 use Rattle.tj_explain.specs.Groups.{groups}
+use Rattle.tj_explain.specs.Inner.GroupKeys.{AreNumbered}
 use Rattle.tj_explain.specs.Inner.GroupViews.{views}
 use Rattle.tj_explain.proofs.groups.groups_of.Given as goal
 
--- the groups so far
+-- the groups so far, with their numbers
 abbrev pub invariant-loop-tree : goal.invariant-loop-tree
-invariant-loop-tree l = views l.groups.items ≡ groups l.all (map view_tree (take l.tree-index l.trees))
+invariant-loop-tree l = (views l.groups.items ≡ groups l.all (map view_tree (take l.tree-index l.trees)))
+    × (l.all ≡ false → AreNumbered l.groups.items l.numbers)

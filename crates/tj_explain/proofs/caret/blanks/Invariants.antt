@@ -1,7 +1,0 @@
-use Rattle.std.proofs.Common.{◌≡◌, map, take}
-use Rattle.tj_explain.specs.Carets.{below}
-use Rattle.tj_explain.proofs.caret.blanks.Given as goal
-
--- those below the bytes so far
-abbrev pub invariant-loop-byte : goal.invariant-loop-byte
-invariant-loop-byte l = l.text.items ≡ map below (take l.byte-index l.front)

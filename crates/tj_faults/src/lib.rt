@@ -1,0 +1,17 @@
+//! What is wrong with a text that is no script, in words: the line of its first fault, the source line with a
+//! caret, what stands there, and what was wanted; or an object of JSON that says it.
+#![tactic(auto)]
+
+mod caret;
+mod fault_objects;
+mod fault_words;
+mod fronts;
+mod objects;
+mod texts;
+mod wanted;
+
+pub use caret::caret_at;
+pub use fault_objects::fault_json;
+pub use fault_words::told_fault_text;
+pub use objects::{begin_object, quoted};
+pub use texts::{joined, place_text};

@@ -1,0 +1,4 @@
+mod ReasonsAgree
+pub mod ReasonsBegun
+pub mod FailuresTold
+pub mod ForksDeclared
