@@ -1,5 +1,6 @@
 -- How the workers leave once their seat has taken in that of the watch: at rest, or stopped as one of both says.
-use Rattle.std.proofs.Common.{◌≡◌, ◌⊎◌, inl, inr, ℕ, ◌+◌, ◌-◌, ◌*◌, ◌≤◌, ◌||◌, Bool, [], Option, refl, sym, ap, ◌∙◌, subst, arith}
+use Rattle.std.proofs.Common.{◌≡◌, ◌⊎◌, inl, inr, ℕ, ◌+◌, ◌-◌, ◌*◌, ◌≤◌, ◌||◌, Bool, [], Option, Some, IfSome}
+use Rattle.std.proofs.Common.{refl, sym, ap, ◌∙◌, subst, arith}
 use Rattle.tj_log.specs.Shown.{SeatShown}
 use Rattle.tj_body.specs.Programs.{Program}
 use Rattle.tj_words.specs.declared.record.Rec.{Rec}
@@ -17,11 +18,15 @@ use Rattle.tj_future.specs.declared.watched.Watched.{Watched}
 use Rattle.tj_future.specs.declared.watched.Watched.TheVariants as watched
 use Rattle.tj_future.specs.Looks.{FindsStopped, IsWatched}
 
+-- what holds of what there is holds of this
+pub of_some : {A : Type 0} (P : A → Type 0) (r : Option A) (x : A) → r ≡ Some x → IfSome r P → P x
+of_some {A} P r x e h = let k : IfSome (Some x) P = subst (λ (z : Option A). IfSome z P) e h in k
+
 -- two lots are the one that was split
 sums : (whole a b : ℕ) → 2 * least_lot ≤ whole → a ≡ whole - least_lot → b ≡ least_lot → a + b ≡ whole
 sums whole a b room e f = omega arith
 
-module _ {B : Type 0} (program : Bool → B → Program B) (cells : ℕ) (v : View B) (room : 2 * least_lot ≤ v.lot) where
+module _ {B : Type 0} (program : Bool → B → Program B) (cells p : ℕ) (v : View B) (room : 2 * least_lot ≤ v.lot) where
   -- what a view of the same table tells of the meaning
   told_alike : (cause : Why) (last : View B) → last.about ≡ v.about → IsTold program cause last
       → IsTold program cause v
@@ -30,8 +35,8 @@ module _ {B : Type 0} (program : Bool → B → Program B) (cells : ℕ) (v : Vi
 
   -- a watch that was stopped says why the run was
   stopped_watch : (cause : Why) (w : View B)
-      → IsWatched program cells 0 (watched.Stopped cause) (right_half v) w → HasStopped program cause v w
-  stopped_watch cause w h = let found : FindsStopped program cells 0 cause h.0 w = h.2 in record {
+      → IsWatched program cells p (watched.Stopped cause) (right_half v) w → HasStopped program cause v w
+  stopped_watch cause w h = let found : FindsStopped program cells p cause h.0 w = h.2 in record {
     stop = ap (λ (u : View B). u.stop) found.0.view;
     told = told_alike cause h.0 h.1.about found.1;
   }
@@ -51,7 +56,7 @@ module _ {B : Type 0} (program : Bool → B → Program B) (cells : ℕ) (v : Vi
   pub leaves_taken : (worked other now : SeatShown (Option (Rec B)) (View B)) (how was : Left) (answer : Watched)
       (mine theirs : View B) → mine ≡ left_half v → theirs ≡ right_half v
       → Leaves program was mine worked.me → other.me.0.lot ≡ theirs.lot
-      → IsWatched program cells 0 answer theirs other.me.0
+      → IsWatched program cells p answer theirs other.me.0
       → (how ≡ leaving.Rested → (was ≡ leaving.Rested) × (now.me ≡ (both worked.me.0 other.me.0, [])) × IsIdle now.me.0)
       → ((cause : Why) → how ≡ leaving.Stopped cause → ((now ≡ worked) × (was ≡ leaving.Stopped cause))
       ⊎ ((now ≡ other) × (answer ≡ watched.Stopped cause)))
@@ -72,5 +77,5 @@ module _ {B : Type 0} (program : Bool → B → Program B) (cells : ℕ) (v : Vi
           (subst (λ z. Leaves program was z worked.me) m l)))
       by (inr y) = subst (λ (z : SeatShown (Option (Rec B)) (View B)). HasStopped program cause v z.me.0) (sym y.0)
           (stopped_watch cause other.me.0
-          (subst (λ z. IsWatched program cells 0 z (right_half v) other.me.0) y.1
-          (subst (λ z. IsWatched program cells 0 answer z other.me.0) t w)))
+          (subst (λ z. IsWatched program cells p z (right_half v) other.me.0) y.1
+          (subst (λ z. IsWatched program cells p answer z other.me.0) t w)))

@@ -4,3 +4,4 @@ pub mod RootWatches
 pub mod WatchedRuns
 pub mod LooksStand
 pub mod LookLogs
+pub mod CellWatches

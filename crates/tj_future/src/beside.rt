@@ -74,7 +74,7 @@ pub fn run_watched<B: Body, P: Pool, G: Gate, R: Wait + Threads + Sync>(
 }
 
 // Why a run that was stopped has no outcome.
-fn fault_of(why: Why) -> RunFault
+pub(crate) fn fault_of(why: Why) -> RunFault
     ensures { result ≡ RunFault.Full → why ≡ Why.Full }
 {
     match why {
@@ -105,7 +105,7 @@ pub(crate) fn work_watched<B: Body, P: Pool, G: Gate, R: Wait + Threads + Sync>(
     ensures left { Leaves (program_of B.places B.awaits B.left B.asks B.then) result.1 seat.me.0
         result.0.me }
     ensures watched { HasWatched (program_of B.places B.awaits B.left B.asks B.then) laid.now.cells
-        result.2 result.1 seat.me.0 result.0.me }
+        0 result.2 result.1 seat.me.0 result.0.me }
 {
     let (mine, theirs) = laid.split(seat);
     let watching = move || -> (Watched, WSeat<B>)
@@ -132,7 +132,7 @@ pub(crate) fn work_watched<B: Body, P: Pool, G: Gate, R: Wait + Threads + Sync>(
 }
 
 // The seat of the workers takes in that of the watch. The run was stopped where either says so.
-fn take_in<B: Body>(
+pub(crate) fn take_in<B: Body>(
     laid: &Laid<B>,
     worked: WSeat<B>,
     left: Left,

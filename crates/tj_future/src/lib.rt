@@ -4,11 +4,13 @@
 
 mod beside;
 mod looks;
+mod polled_runs;
 mod polls;
 mod watched;
 
 pub use beside::run_watched;
 pub use looks::{look_at, watch};
+pub use polled_runs::run_polled;
 pub use polls::{CellWait, Polled, PolledPlan, PolledTask};
 pub use watched::Watched;
 

@@ -12,8 +12,8 @@ use Rattle.tj_body.specs.Points.{IsIn}
 use Rattle.tj_mean.specs.declared.outcome.Link.{Link}
 use Rattle.tj_mean.specs.declared.outcome.Outcome.{Outcome}
 use Rattle.tj_told.specs.Hearing.{HasHeard, Hears, IsStoppedBy}
-use Rattle.tj_told.specs.ToldNews.{AddsTo, AreApart, AreTold, IsBrokenIn, IsCycleOf, same_cycle, same_link, tells_cycle}
-use Rattle.tj_told.specs.ToldNews.{is_value}
+use Rattle.tj_told.specs.ToldNews.{AddsTo, AreApart, AreOf, AreTold, IsBrokenIn, IsCycleOf}
+use Rattle.tj_told.specs.ToldNews.{is_value, same_cycle, same_link, tells_cycle}
 use Rattle.tj_base.specs.declared.value.Shown.{Shown}
 use Rattle.tj_told.specs.declared.listener.Goes.{Goes}
 use Rattle.tj_told.specs.declared.listener.Goes.TheVariants as goes
@@ -203,9 +203,10 @@ in_take (c ∷ cs) (suc i) d l (inr k) =
 
 -- only the cycles, and what was told before, are told after one of them
 pub only_so_far : (early told now : List News) (cs : List (List Link)) (c : List Link) → IsIn c cs
-    → AddsTo (news.Cycle c) told now → ((d : News) → IsIn d told → IsIn d early ⊎ IsCycleOf cs d) → (d : News)
+    → ((d : News) → IsIn d now → (d ≡ news.Cycle c) ⊎ IsIn d told)
+    → ((d : News) → IsIn d told → IsIn d early ⊎ IsCycleOf cs d) → (d : News)
     → IsIn d now → IsIn d early ⊎ IsCycleOf cs d
-only_so_far early told now cs c i a only d j = by (a.only d j)
+only_so_far early told now cs c i adds only d j = by (adds d j)
   where
     by : (d ≡ news.Cycle c) ⊎ IsIn d told → IsIn d early ⊎ IsCycleOf cs d
     by (inl e) = inr (c, i, e)
@@ -252,14 +253,12 @@ value_early early told cycles only q v i = by (only (news.Value q v) i)
     by (inl j) = j
     by (inr k) = absurd (not_value q v k.0 k.2)
 
--- what was told early is so by the outcome, and later only its cycles were told, and all of them
-pub all_told : (early told : List News) (o : Outcome) → ((c : List Link) → IsIn (news.Cycle c) early → IsIn c o.cycles)
+-- what was told early is so by the outcome, and later only its cycles were told
+pub told_of : (early told : List News) (o : Outcome) → ((c : List Link) → IsIn (news.Cycle c) early → IsIn c o.cycles)
     → ((q : Name) → IsIn (news.Broken q) early → IsBrokenIn o q)
-    → ((d : News) → IsIn d told → IsIn d early ⊎ IsCycleOf o.cycles d)
-    → ((c : List Link) → IsIn c o.cycles → IsIn (news.Cycle c) told) → AreTold told o
-all_told early told o cycles broken only all = record {
-  only = λ c i. cycle c (only (news.Cycle c) i);
-  all = all;
+    → ((d : News) → IsIn d told → IsIn d early ⊎ IsCycleOf o.cycles d) → AreOf told o
+told_of early told o cycles broken only = record {
+  cycles = λ c i. cycle c (only (news.Cycle c) i);
   broken = λ q i. one q (only (news.Broken q) i);
 }
   where
@@ -270,6 +269,11 @@ all_told early told o cycles broken only all = record {
     one : (q : Name) → IsIn (news.Broken q) early ⊎ IsCycleOf o.cycles (news.Broken q) → IsBrokenIn o q
     one q (inl i) = broken q i
     one q (inr k) = absurd (not_cycle q k.0 k.2)
+
+-- with an outcome all of its cycles were told
+pub all_told : (told : List News) (o : Outcome) → AreOf told o
+    → ((c : List Link) → IsIn c o.cycles → IsIn (news.Cycle c) told) → AreTold told o
+all_told told o of all = record { only = of.cycles; all = all; broken = of.broken }
 
 -- an answer On isn't Stop
 pub on_no_stop : (r : Result Goes Oom) (g : Goes) → r ≡ Ok g → g ≡ goes.On → r ≢ Ok goes.Stop

@@ -1,31 +1,32 @@
 -- Which faults a run has, by those of its parts.
-use Rattle.std.proofs.Common.{◌≡◌, ◌≢◌, ℕ, Bool, List, [], Result, Ok, Err, IfErr, IfOk, ap, refl, sym, subst, ◌∙◌}
+use Rattle.std.proofs.Common.{◌≡◌, ◌≢◌, ℕ, Bool, List, [], Result, Ok, Err, IfErr, IfOk, inr, refl, sym, subst}
 use Rattle.tj_body.specs.Programs.{Program}
 use Rattle.std.proofs.Common.{Option}
+use Rattle.tj_base.specs.ForkOrder.{Name}
+use Rattle.tj_embed.specs.ScriptRuns.{script_program}
+use Rattle.tj_embed.specs.declared.options.Options.{Options}
+use Rattle.tj_eval.specs.Bodies.{IsMainBody}
+use Rattle.tj_eval.specs.Statements.{TaskState}
 use Rattle.tj_log.specs.Shown.{SeatShown}
+use Rattle.tj_syntax.specs.Trees.{Task}
 use Rattle.tj_words.specs.AtRest.EndedRuns.{EndsRun}
 use Rattle.tj_words.specs.declared.closed.RestCell.{RestCell}
 use Rattle.tj_words.specs.declared.record.Rec.{Rec}
 use Rattle.tj_words.specs.declared.view.View.{View}
-use Rattle.tj_told.specs.Hearing.{Hears}
+use Rattle.tj_told.specs.EndedNews.{IsEarly, IsEarlyOfScript}
+use Rattle.tj_told.specs.Hearing.{Hears, IsHeardUntil, IsStoppedBy}
 use Rattle.tj_told.specs.declared.fault.ToldFault.{ToldFault}
 use Rattle.tj_told.specs.declared.fault.ToldFault.TheVariants as fault
 use Rattle.tj_told.specs.declared.listener.Goes.{Goes}
 use Rattle.tj_told.specs.declared.news.News.{News}
 
--- a stop that is passed on was a stop
-pub is_stop : {A : Type 0} (r : Result (Unit {0}) ToldFault) (f : ToldFault) → r ≡ Err f → (z : Result A ToldFault)
-    → z ≡ Err f → z ≡ Err fault.Stopped → r ≡ Err fault.Stopped
-is_stop r fault.Full is z e stopped = absurd (cc)
-is_stop r fault.Oom is z e stopped = absurd (cc)
-is_stop r fault.Stopped is z e stopped = is
-
--- a fault that isn't Stopped isn't it as another call's either
-pub no_stop : {A C : Type 0} (r : Result A ToldFault) (f : ToldFault) → r ≡ Err f
-    → ((z : Result C ToldFault) → z ≡ Err f → z ≢ Err fault.Stopped) → r ≢ Err fault.Stopped
-no_stop r fault.Full is n stopped = absurd (cc)
-no_stop r fault.Oom is n stopped = absurd (cc)
-no_stop r fault.Stopped is n stopped = n (Err fault.Stopped) refl refl
+-- what a listener has heard where a part of the run ended with this fault
+pub heard_until : {T A : Type 0} (tells : T → News → Goes → T → Type 0) (told : List News) (s t : T)
+    (r : Result A ToldFault) (f : ToldFault) → r ≡ Err f → (r ≢ Err fault.Stopped → Hears tells told s t)
+    → (r ≡ Err fault.Stopped → IsStoppedBy tells told s t) → IsHeardUntil tells f told s t
+heard_until tells told s t r fault.Full is goes stops = goes (λ stopped. absurd (cc))
+heard_until tells told s t r fault.Oom is goes stops = goes (λ stopped. absurd (cc))
+heard_until tells told s t r fault.Stopped is goes stops = stops is
 
 -- an Ok is no fault
 pub ok_no_stop : {A : Type 0} (r : Result A ToldFault) (a : A) → r ≡ Ok a → r ≢ Err fault.Stopped
@@ -46,19 +47,6 @@ pub both_ok : {A E : Type 0} {P Q R : A → Type 0} (r : Result A E) → ((x : A
 both_ok (Ok x) f h k = f x h k
 both_ok (Err e) f h k = tt
 
--- the fault of a result
-abbrev fault_in : {A : Type 0} → Result A ToldFault → ToldFault → ToldFault
-fault_in (Ok x) f = f
-fault_in (Err e) f = e
-
--- one fault in another's place
-pub fault_is : {A C : Type 0} (r : Result C ToldFault) (f g : ToldFault) → r ≡ Err f → (z : Result A ToldFault)
-    → z ≡ Err f → z ≡ Err g → r ≡ Err g
-fault_is r f g is z e h = is ∙ ap (λ x. Err x) (ap (λ y. fault_in y f) (sym e ∙ h))
-
-pub full_no_stop : {A : Type 0} (r : Result A ToldFault) → r ≡ Err fault.Full → r ≢ Err fault.Stopped
-full_no_stop r e s = absurd (cc)
-
 -- and of a fault
 pub err_so : {A E : Type 0} {P Q : E → Type 0} (r : Result A E) → ((x : E) → P x → Q x) → IfErr r P → IfErr r Q
 err_so (Ok x) f h = tt
@@ -75,3 +63,16 @@ ends_on program l m s t x y seat cells records e f g h =
     subst (λ n. EndsRun program n t y seat cells records) e
     (subst (λ b. EndsRun program l b y seat cells records) f
     (subst (λ z. EndsRun program l s z seat cells records) g h))
+
+-- what a run of a script's body gives is so of the script
+pub early_of_script : {T A : Type 0} (tells : T → News → Goes → T → Type 0) (s t : T) (script : List Task) (o : Options)
+    (wanted : Option Name) (root : TaskState) → IsMainBody script o.steps root → (r : Result A ToldFault)
+    → IfErr r (λ fault. (told : List News) × IsHeardUntil tells fault told s t
+    × IsEarly script_program o.cells o.strict root wanted told)
+    → IfErr r (λ fault. (told : List News) × IsHeardUntil tells fault told s t × IsEarlyOfScript script o wanted told)
+early_of_script tells s t script o wanted root is (Ok x) h = h
+early_of_script tells s t script o wanted root is (Err fault) h = (h.0, h.1, inr (root, is, h.2))
+
+-- where nothing was told, nothing was heard
+pub nothing_heard : {T : Type 0} (tells : T → News → Goes → T → Type 0) (s : T) → Hears tells [] s s
+nothing_heard tells s = record { calls = refl; apart = tt }

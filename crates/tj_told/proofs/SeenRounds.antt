@@ -1,5 +1,5 @@
 -- A round that was seen is one of the outcome's cycles.
-use Rattle.std.proofs.Common.{◌≡◌, ◌-◌, ◌<◌, ℕ, zero, suc, Bool}
+use Rattle.std.proofs.Common.{◌≡◌, ◌-◌, ◌<◌, ◌⊎◌, ℕ, Bool}
 use Rattle.std.proofs.Common.{List, [], ◌∷◌, Option, None, Some, refl, sym, ap, ◌∙◌}
 use Rattle.std.proofs.Common.{subst, arith, length, min, reverse}
 use Rattle.std.proofs.Math.Option.{some-injective}
@@ -39,7 +39,7 @@ use Rattle.tj_words.specs.LawParts.Contents.{contents_of, drawn_in}
 use Rattle.tj_words.specs.LawParts.TreeWords.{IsCell}
 use Rattle.tj_words.specs.SeatViews.KnownEntries.{HasSeen}
 use Rattle.tj_words.specs.LawParts.Telling.{tag_of}
-use Rattle.tj_words.specs.SeatViews.SeenWords.{SeesNames, seen_word}
+use Rattle.tj_words.specs.SeatViews.SeenWords.{seen_word}
 use Rattle.tj_words.specs.Words.Offsets.{once_at, word}
 use Rattle.tj_words.specs.declared.closed.RestCell.{RestCell}
 use Rattle.tj_words.specs.declared.offsets.Once.{Once}
@@ -48,18 +48,19 @@ use Rattle.tj_words.specs.declared.record.Rec.{Rec}
 use Rattle.tj_words.specs.declared.view.SeenWord.{SeenWord}
 use Rattle.tj_words.specs.declared.view.View.{View}
 use Rattle.tj_words.proofs.Lemmas.{at_index}
-use Rattle.tj_words.proofs.SeatLoads.KnowLoads.{sees_names, tag_some}
+use Rattle.tj_words.proofs.SeatLoads.KnowLoads.{tag_some}
 use Rattle.tj_words.proofs.Stores.SeatLists.{in_of_index, inside}
 use Rattle.tj_words.proofs.Prelude.{at_map}
 use Rattle.tj_words.proofs.Meaning.MeantCycles.{one_meant, same_names}
 use Rattle.tj_laws.specs.TableWaits.{EveryMoment}
 use Rattle.tj_told.proofs.BrokenCells.{broken_tag, broken_told}
-use Rattle.tj_told.specs.SeenNews.{HasLogOf, HasSeenValue}
-use Rattle.tj_told.specs.ToldNews.{AreAnswers, IsBrokenIn}
+use Rattle.tj_told.proofs.Hearings.{told_of, value_early}
+use Rattle.tj_told.specs.EndedNews.{IsOfOutcome}
+use Rattle.tj_told.specs.SeenNews.{AreSeenBy, HasLogOf, HasSeenValue}
+use Rattle.tj_told.specs.ToldNews.{AreAnswers, IsBrokenIn, IsCycleOf}
 use Rattle.tj_told.specs.declared.news.News.{News}
-use Rattle.tj_told.specs.declared.news.News.TheVariants as news
 use Rattle.tj_told.proofs.ClosedRounds.{round_meant, turns_closed}
-use Rattle.tj_told.proofs.EndedRounds.{turns}
+use Rattle.tj_told.proofs.EndedRounds.{becomes, maker_number, turns}
 use Rattle.tj_told.proofs.ToldRounds.{cycle_told}
 use Rattle.tj_told.specs.ToldLoads.{Turn}
 use Rattle.tj_told.specs.ToldLinks.{AreLinksOf, ClimbsTo, IsNamed, IsSeenRound, SeesName}
@@ -69,27 +70,12 @@ broken_for : (o : Option point_entry.Entry) → 4 ≡ tag_for o → o ≡ Some e
 broken_for None h = let z : 4 ≡ 0 = h in absurd (cc)
 broken_for (Some e) h = ap (λ z. Some z) (broken_tag e h)
 
--- the maker that a word PARENT names
-maker_number : (p : ℕ) → (maker_in p).0 ≡ p - 1
-maker_number zero = refl
-maker_number (suc p) = omega arith
-
 -- an entry that has a TAG is there, and is the one that its cell ever has
 meant_entry : {B : Type 0} (program : Program B) (n : ℕ) (q : Name) (e : point_entry.Entry)
     (o : Option point_entry.Entry) → given program n q ≡ o → tag_of e ≡ tag_for o → Becomes program q e
     → given program n q ≡ Some e
 meant_entry program n q e None is t b = absurd (tag_some e t)
 meant_entry program n q e (Some d) is t b = is ∙ ap (λ z. Some z) (entries_are_one program q d e (n, is) b).0
-
--- by what a seat has seen of the tree, a cell has the name that was seen
-name_by_tree : (seen : List SeenWord) (born : List Reference) → SeesNames seen born → (ks : List ℕ) (c : ℕ)
-    (x : Reference) → ClimbsTo seen c ks 0 → IsCell born c x → x.name ≡ reverse ks
-name_by_tree seen born n [] c x h is = ap (λ (r : Reference). r.name)
-    (some-injective x (to_task []) (sym is ∙ (ap (get_elem? born) h ∙ n.root)))
-name_by_tree seen born n (k ∷ ks) c x h is =
-    let m = n.named c h.1.0 k x h.0 h.1.1 h.1.2 is in
-    m.2 ∙ (ap (λ q. child q k) (name_by_tree seen born n ks (h.1.0 - 1) m.0 h.1.3 m.1)
-    ∙ sym (reverse-append (k ∷ []) ks))
 
 -- the name that an option has
 abbrev name_in : Option Name → Name → Name
@@ -101,6 +87,16 @@ pub one_answer : {B : Type 0} (program : Program B) (n : ℕ) (q : Name) (o : Op
     → IsOfName program n q o → IsOfName program n q (Some b) → o ≡ Some b
 one_answer program n q None b h k = absurd (h k.0)
 one_answer program n q (Some a) b h k = ap (λ z. Some z) (h.1 ∙ sym k.1)
+
+-- each value that was told is the answer, where it is of the outcome
+pub answered : {B : Type 0} (program : Bool → B → Program B) (limit : ℕ) (strict : Bool) (root : B) (name : Name)
+    (answer : Option Became) (o : Outcome) (told : List News) → IsOfName (program strict root) limit name answer
+    → IsOfOutcome program limit strict root (Some name) o told → AreAnswers (Some name) answer told
+answered program limit strict root name answer o told a h q v i = let k = h.values q v i in (
+  k.0,
+  one_answer (program strict root) limit q answer (became.Value v)
+      (subst (λ z. IsOfName (program strict root) limit z answer) (ap (λ n. name_in n name) k.0) a) k.1,
+)
 
 -- what became of a cell by the names of the table is so by the root, the limit and the rule that were given
 pub became_named : {B : Type 0} (program : Bool → B → Program B) (root : B) (limit : ℕ) (strict : Bool)
@@ -209,12 +205,6 @@ module _ {B : Type 0} (every : EveryMoment B) (program : Bool → B → Program 
       (subst (λ z. given (program strict root) (last_round limit) z ≡ Some entry.Broken) name
       (broken_for (given (program strict root) (last_round limit) x.0.name) (sym f.tag_is ∙ given_so)))
 
-  -- what the seat has seen of the tree tells names
-  tree : SeesNames seat.me.0.seen law.born
-  tree = sees_names (program e.key.strict e.key.root.value) e.key.cells (contents_of e.last) law seat.me.0.seen
-      (law.once_words.stands seat.id seat.me.0.seen
-      (at_map (λ (z : View B). z.seen) e.last.views seat.id seat.me.0 e.seat_is))
-
   -- and a value that was loaded is what the meaning has for the cell of that name
   pub value_seen : (c : ℕ) (q : Name) (v : Shown) → HasSeenValue c q v seat.me.0
       → IsOfName (program strict root) limit q (Some (became.Value v))
@@ -228,26 +218,25 @@ module _ {B : Type 0} (every : EveryMoment B) (program : Bool → B → Program 
       let b = law.births.all in omega arith in
       let y = climbed_name e.last.words drawn cells born words.named each there seat.me.0.seen stands ks c h.named.1 in
       let name = y.2 ∙ sym h.named.2 in
-      let one = name_by_tree seat.me.0.seen law.born tree ks c w.reference h.named.1 w.is ∙ sym h.named.2 in
       let tag = words.entries c (cell_of e.last.words c) y.0 (each c d) y.1 in
-      let becomes : Becomes p q x = subst (λ s. Becomes (program s root) q x) e.key_strict
-      (subst (λ r. Becomes (program e.key.strict r) q x) e.key_root
-      (subst (λ z. Becomes (program e.key.strict e.key.root.value) z x) one w.becomes)) in
+      let became_so = becomes program limit strict root seat cells records e c q x h.seen.loaded h.named in
       let is = meant_entry p (last_round limit) q x (given p (last_round limit) q) refl
-      (sym f.tag_is ∙ (tag ∙ ap (λ z. tag_for (given p (last_round limit) z)) name)) becomes in (
+      (sym f.tag_is ∙ (tag ∙ ap (λ z. tag_for (given p (last_round limit) z)) name)) became_so in (
         (words.all q).0 (subst (λ n. IsIn n (closed_names born)) name
             (to_map (λ (r : Reference). r.name) y.0 born (in_of_index born c y.0 y.1))),
         ap (λ z. became.Value z) (sym h.seen.shown) ∙ ap became_of (sym is),
       )
 
-  -- so each value that was told is the answer
-  pub answers : (watched : Option Name) (told : List News) (name : Name) (answer : Option Became) → watched ≡ Some name
-      → IsOfName (program strict root) limit name answer
-      → ((q : Name) (v : Shown) → IsIn (news.Value q v) told
-      → (watched ≡ Some q) × ((c : ℕ) × HasSeenValue c q v seat.me.0)) → AreAnswers (Some name) answer told
-  answers watched told name answer w a h q v i = let k = h q v i in let is = sym w ∙ k.0 in (
-    is,
-    one_answer (program strict root) limit q answer (became.Value v)
-        (subst (λ z. IsOfName (program strict root) limit z answer) (ap (λ o. name_in o name) is) a)
-        (value_seen k.1.0 q v k.1.1),
-  )
+  -- what was told before a run ended at rest is of its outcome, of which only cycles were told after that
+  pub of_outcome : (wanted : Option Name) → IsLast (program strict root) → (o : Outcome)
+      → IsOutcome (meaning (program strict root) limit) o → (early told : List News) → AreSeenBy wanted seat early
+      → ((d : News) → IsIn d told → IsIn d early ⊎ IsCycleOf o.cycles d)
+      → IsOfOutcome program limit strict root wanted o told
+  of_outcome wanted is_last o is early told s only = record {
+    is = is;
+    fits = words.fits;
+    agree = told_of early told o (λ c i. let l = s.cycles c i in seen_told o is l.0 l.1 c l.2)
+        (λ q i. let l = s.broken q i in broken_seen is_last o is l.0 l.1 q l.2) only;
+    values = λ q v i. let l = s.values q v (value_early early told o.cycles only q v i) in
+        (l.0, value_seen l.1.0 q v l.1.1);
+  }

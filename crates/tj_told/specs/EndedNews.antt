@@ -1,10 +1,24 @@
 -- What was told before the end of a run stood in its table at the end.
-use Rattle.std.specs.Prelude.{◌≡◌, ◌≢◌, ◌⊎◌, ℕ, Bool, List, [], ◌∷◌, Option, reverse}
+use Rattle.std.specs.Prelude.{◌≡◌, ◌≢◌, ◌⊎◌, ℕ, Bool, List, [], ◌∷◌, Option, Some, reverse}
 use Rattle.tj_base.specs.ForkOrder.{Name}
+use Rattle.tj_base.specs.declared.value.Shown.{Shown}
 use Rattle.tj_body.specs.Points.{IsIn}
 use Rattle.tj_body.specs.Programs.{Program}
+use Rattle.tj_body.specs.RoundPoints.{Becomes}
+use Rattle.tj_body.specs.Rounds.{IsFull, meaning}
+use Rattle.tj_body.specs.declared.point.Entry.TheVariants as entry
+use Rattle.tj_body.specs.declared.point.Value.{Value}
+use Rattle.tj_embed.specs.ScriptRuns.{script_program}
+use Rattle.tj_embed.specs.declared.options.Options.{Options}
+use Rattle.tj_eval.specs.Bodies.{IsMainBody}
+use Rattle.tj_eval.specs.Statements.{TaskState}
 use Rattle.tj_log.specs.Shown.{SeatShown}
+use Rattle.tj_mean.specs.Outcomes.{IsOutcome, shown_of}
 use Rattle.tj_mean.specs.declared.outcome.Link.{Link}
+use Rattle.tj_mean.specs.declared.outcome.Outcome.{Outcome}
+use Rattle.tj_report.specs.NamedValues.{IsOfName}
+use Rattle.tj_report.specs.declared.named_values.Became.TheVariants as became
+use Rattle.tj_syntax.specs.Trees.{Task}
 use Rattle.tj_words.specs.AtRest.ClosedCells as closed
 use Rattle.tj_words.specs.AtRest.EndedRuns.{EndsRun}
 use Rattle.tj_words.specs.declared.closed.RestCell.{RestCell}
@@ -12,6 +26,7 @@ use Rattle.tj_words.specs.declared.record.Rec.{Rec}
 use Rattle.tj_words.specs.declared.view.View.{View}
 use Rattle.tj_told.specs.ToldLinks.{AreLinksOf, IsFromLeast}
 use Rattle.tj_told.specs.ToldLoads.{ComesBack, Turn}
+use Rattle.tj_told.specs.ToldNews.{AreOf}
 use Rattle.tj_told.specs.declared.news.News.{News}
 use Rattle.tj_told.specs.declared.news.News.TheVariants as news
 
@@ -45,17 +60,40 @@ pub record IsStandingRound (cells : List RestCell) (turned : List Link) : Type 0
 abbrev pub IsStandingBroken : List RestCell → Name → Type 0
 IsStandingBroken cells q = (c : ℕ) × (x : RestCell) × closed.IsShown cells c x × (x.tag ≡ 4) × IsNamedIn cells c q
 
-module _ {B : Type 0} (program : Bool → B → Program B) (limit : ℕ) (strict : Bool) (root : B) where
-  -- what was told stood in the table when the run ended: by the cells at the end of a run of the table from its first
-  -- state each cycle stands, and each broken cell is broken
-  pub record StoodAtEnd (told : List News) : Type 0 where
-    pub seat : SeatShown (Option (Rec B)) (View B)
-    pub cells : List RestCell
-    pub records : List (Option (Rec B))
-    pub ends : EndsRun program limit strict root seat cells records
-    pub cycles : (c : List Link) → IsIn (news.Cycle c) told → IsStandingRound cells c
-    pub broken : (q : Name) → IsIn (news.Broken q) told → IsStandingBroken cells q
+-- in some round of the meaning the cell of this name has a value that is shown like this
+abbrev pub HasValueIn : {B : Type 0} → Program B → Name → Shown → Type 0
+HasValueIn program q v = (x : Value) × (shown_of x ≡ v) × Becomes program q (entry.Value x)
 
-  -- nothing was told, or what was told stood at the end
-  abbrev pub IsEarly : List News → Type 0
-  IsEarly told = (told ≡ []) ⊎ StoodAtEnd told
+module _ {B : Type 0} (program : Bool → B → Program B) (limit : ℕ) (strict : Bool) (root : B) (wanted : Option Name)
+  where
+    -- what was told stood in the table when the run ended: by the cells at the end of a run of the table of this root
+    -- and limit, from its first state on, each cycle stands, and each broken cell is broken, as it is in some round of
+    -- the meaning; and a value that was told is, in some round, that of the cell of the wanted name
+    pub record StoodAtEnd (told : List News) : Type 0 where
+      pub seat : SeatShown (Option (Rec B)) (View B)
+      pub cells : List RestCell
+      pub records : List (Option (Rec B))
+      pub ends : EndsRun program limit strict root seat cells records
+      pub cycles : (c : List Link) → IsIn (news.Cycle c) told → IsStandingRound cells c
+      pub broken : (q : Name) → IsIn (news.Broken q) told
+          → IsStandingBroken cells q × Becomes (program strict root) q entry.Broken
+      pub values : (q : Name) (v : Shown) → IsIn (news.Value q v) told
+          → (wanted ≡ Some q) × HasValueIn (program strict root) q v
+
+    -- what was told is of this outcome, that of the meaning, which isn't full: each cycle is one of its cycles, each
+    -- broken cell is broken by it, and a value that was told is that of the cell of the wanted name
+    pub record IsOfOutcome (outcome : Outcome) (told : List News) : Type 0 where
+      pub is : IsOutcome (meaning (program strict root) limit) outcome
+      pub fits : ¬ IsFull (program strict root) limit
+      pub agree : AreOf told outcome
+      pub values : (q : Name) (v : Shown) → IsIn (news.Value q v) told
+          → (wanted ≡ Some q) × IsOfName (program strict root) limit q (Some (became.Value v))
+
+    -- nothing was told, or what was told stood at the end, or it is of the outcome of the meaning
+    abbrev pub IsEarly : List News → Type 0
+    IsEarly told = (told ≡ []) ⊎ (StoodAtEnd told ⊎ ((o : Outcome) × IsOfOutcome o told))
+
+-- the same of a script with these options: nothing was told, or it is so of the body of `main` as the root
+abbrev pub IsEarlyOfScript : List Task → Options → Option Name → List News → Type 0
+IsEarlyOfScript script o wanted told = (told ≡ []) ⊎ ((root : TaskState) × IsMainBody script o.steps root
+    × IsEarly script_program o.cells o.strict root wanted told)

@@ -54,6 +54,11 @@ HasFailed e = (c : Cause) × (e ≡ ending.Failed c)
 abbrev pub IsBrokenIn : Outcome → Name → Type 0
 IsBrokenIn o q = (l : TaskLine) × IsIn l o.lines × (((l.name ≡ q) × HasFailed l.ending) ⊎ IsIn q l.owes)
 
+-- each cycle that was told is one of the outcome's, and each cell that was told to be broken is broken by it
+pub record AreOf (told : List News) (o : Outcome) : Type 0 where
+  pub cycles : (c : List Link) → IsIn (news.Cycle c) told → IsIn c o.cycles
+  pub broken : (q : Name) → IsIn (news.Broken q) told → IsBrokenIn o q
+
 -- the cycles that were told are those of the outcome, all of them and no others, and a cell that was told to be broken
 -- is broken by it
 pub record AreTold (told : List News) (o : Outcome) : Type 0 where

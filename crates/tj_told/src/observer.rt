@@ -1,7 +1,7 @@
 //! An observer: beside the workers it looks at the phases of the cells that are drawn.
 ghost use Rattle.std.specs.Prelude.{◌≡◌, ◌≢◌, Ok, get_or, false};
 ghost use Rattle.tj_words.specs.SeatViews.SeatSteps.{IsCellOf};
-ghost use Rattle.tj_told.specs.Hearing.{Hears, IsStoppedBy};
+ghost use Rattle.tj_told.specs.Hearing.{HearsOn, IsStoppedOn};
 ghost use Rattle.std.specs.Prelude.{Option};
 ghost use Rattle.tj_base.specs.ForkOrder as fork;
 ghost use Rattle.tj_told.specs.Observers.{KnowsCell, LooksOn, Observes};
@@ -57,11 +57,9 @@ pub(crate) fn observe<B: Body, T: Listener, R: Wait>(
     ensures seen { AreSeen watch.wanted seat telling.met.items telling.news
         → AreSeen watch.wanted result.0 result.1.met.items result.1.news }
     ensures goes { AreSeen watch.wanted seat telling.met.items telling.news
-        → (s : T) → Hears T.tells telling.news s telling.listener
-        → result.2 ≢ Sight.Stops → Hears T.tells result.1.news s result.1.listener }
+        → HearsOn T.tells telling result.1 (result.2 ≢ Sight.Stops) }
     ensures stops { AreSeen watch.wanted seat telling.met.items telling.news
-        → (s : T) → Hears T.tells telling.news s telling.listener
-        → result.2 ≡ Sight.Stops → IsStoppedBy T.tells result.1.news s result.1.listener }
+        → IsStoppedOn T.tells telling result.1 (result.2 ≡ Sight.Stops) }
 {
     let Looks::Every(every) = watch.looks else {
         return (seat, telling, Sight::Ended);
@@ -95,11 +93,9 @@ fn look<B: Body, T: Listener>(
     ensures seen { AreSeen wanted.now seat.old telling.old.met.items telling.old.news
         → AreSeen wanted.now seat.new telling.new.met.items telling.new.news }
     ensures goes { AreSeen wanted.now seat.old telling.old.met.items telling.old.news
-        → (s : T) → Hears T.tells telling.old.news s telling.old.listener
-        → result ≢ Sight.Stops → Hears T.tells telling.new.news s telling.new.listener }
+        → HearsOn T.tells telling.old telling.new (result ≢ Sight.Stops) }
     ensures stops { AreSeen wanted.now seat.old telling.old.met.items telling.old.news
-        → (s : T) → Hears T.tells telling.old.news s telling.old.listener
-        → result ≡ Sight.Stops → IsStoppedBy T.tells telling.new.news s telling.new.listener }
+        → IsStoppedOn T.tells telling.old telling.new (result ≡ Sight.Stops) }
 {
     if laid.stopped(seat) != 0 {
         return Sight::Ended;
@@ -133,11 +129,9 @@ fn look_at<B: Body, T: Listener>(
     ensures seen { AreSeen wanted.now seat.old telling.old.met.items telling.old.news
         → AreSeen wanted.now seat.new telling.new.met.items telling.new.news }
     ensures goes { AreSeen wanted.now seat.old telling.old.met.items telling.old.news
-        → (s : T) → Hears T.tells telling.old.news s telling.old.listener
-        → result ≢ Ok Goes.Stop → Hears T.tells telling.new.news s telling.new.listener }
+        → HearsOn T.tells telling.old telling.new (result ≢ Ok Goes.Stop) }
     ensures stops { AreSeen wanted.now seat.old telling.old.met.items telling.old.news
-        → (s : T) → Hears T.tells telling.old.news s telling.old.listener
-        → result ≡ Ok Goes.Stop → IsStoppedBy T.tells telling.new.news s telling.new.listener }
+        → IsStoppedOn T.tells telling.old telling.new (result ≡ Ok Goes.Stop) }
 {
     if telling.has_met(t) {
         return Ok(Goes::On);
@@ -181,12 +175,10 @@ fn look_at_broken<B: Body, T: Listener>(
         → AreSeen w seat.new telling.new.met.items telling.new.news }
     ensures goes { (w : Option fork.Name)
         → AreSeen w seat.old telling.old.met.items telling.old.news
-        → (s : T) → Hears T.tells telling.old.news s telling.old.listener
-        → result ≢ Ok Goes.Stop → Hears T.tells telling.new.news s telling.new.listener }
+        → HearsOn T.tells telling.old telling.new (result ≢ Ok Goes.Stop) }
     ensures stops { (w : Option fork.Name)
         → AreSeen w seat.old telling.old.met.items telling.old.news
-        → (s : T) → Hears T.tells telling.old.news s telling.old.listener
-        → result ≡ Ok Goes.Stop → IsStoppedBy T.tells telling.new.news s telling.new.listener }
+        → IsStoppedOn T.tells telling.old telling.new (result ≡ Ok Goes.Stop) }
 {
     telling.meet(c)?;
     let name = name_at(alloc, laid, seat, c)?;
@@ -207,10 +199,8 @@ fn look_at_phase<B: Body, T: Listener>(
     ensures seen { (w : Option fork.Name)
         → AreSeen w seat.old telling.old.met.items telling.old.news
         → AreSeen w seat.new telling.new.met.items telling.new.news }
-    ensures goes { (s : T) → Hears T.tells telling.old.news s telling.old.listener
-        → result ≢ Ok Goes.Stop → Hears T.tells telling.new.news s telling.new.listener }
-    ensures stops { (s : T) → Hears T.tells telling.old.news s telling.old.listener
-        → result ≡ Ok Goes.Stop → IsStoppedBy T.tells telling.new.news s telling.new.listener }
+    ensures goes { HearsOn T.tells telling.old telling.new (result ≢ Ok Goes.Stop) }
+    ensures stops { IsStoppedOn T.tells telling.old telling.new (result ≡ Ok Goes.Stop) }
 {
     let phase = laid.see_phase(seat, t, None);
     if !has_alarmed(phase) {

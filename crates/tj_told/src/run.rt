@@ -8,12 +8,11 @@ ghost use Rattle.tj_body.specs.Rounds.{IsFull, meaning};
 ghost use Rattle.tj_embed.specs.Limits.{AreLimits};
 ghost use Rattle.tj_mean.specs.Outcomes.{IsOutcome};
 ghost use Rattle.tj_told.specs.declared.news.News.{News};
-ghost use Rattle.tj_mean.specs.declared.outcome.Outcome.{Outcome};
 ghost use Rattle.tj_run.specs.Leaving.{HasRested, Leaves};
 ghost use Rattle.tj_run.specs.Runs.{HasLots, RestsAt};
 ghost use Rattle.tj_run.specs.Workers.{IsFree, table_program};
 ghost use Rattle.tj_told.specs.EndedNews.{IsEarly};
-ghost use Rattle.tj_told.specs.Hearing.{Hears, IsStoppedBy};
+ghost use Rattle.tj_told.specs.Hearing.{Hears, HearsOn, IsHeardUntil, IsStoppedOn};
 ghost use Rattle.tj_told.specs.Observers.{Observes};
 ghost use Rattle.tj_told.specs.SeenNews.{AreSeen, AreSeenBy};
 ghost use Rattle.tj_told.specs.ToldNews.{AreAnswers, AreTold};
@@ -78,24 +77,14 @@ pub fn run_told<B: Body, T: Listener, R: Wait + Threads + Sync>(
     // taken back.
     ensures told { IfOk result.0 (λ outcome. (told : List News) × Hears T.tells told listener
         result.1 × AreTold told outcome × AreAnswers None None told) }
-    // Stopped comes only where it answered Stop to the last call.
-    ensures stopped { result.0 ≡ Err ToldFault.Stopped → (told : List News)
-        × IsStoppedBy T.tells told listener result.1 }
-    // Else it answered On to each call, and nothing was told twice.
-    ensures heard { result.0 ≢ Err ToldFault.Stopped → (told : List News)
-        × Hears T.tells told listener result.1 }
-    // Where it answered Stop before the run had an outcome, each cycle that was told stood in the
-    // table at the end of its run, and each cell that was told to be broken was so; else it answered
-    // Stop as it was told of the cycles of the outcome.
-    ensures early { result.0 ≡ Err ToldFault.Stopped → (told : List News)
-        × IsStoppedBy T.tells told listener result.1 × (IsEarly
-        (program_of B.places B.awaits B.left B.asks B.then) options.cells options.strict root told
-        ⊎ ((o : Outcome) × IsOutcome (meaning (program_of B.places B.awaits B.left B.asks B.then
-        options.strict root) options.cells) o)) }
-    // So it is of what was told of a run that ends with Full.
-    ensures early_full { result.0 ≡ Err ToldFault.Full → (told : List News)
-        × Hears T.tells told listener result.1 × IsEarly
-        (program_of B.places B.awaits B.left B.asks B.then) options.cells options.strict root told }
+    // With a fault, it answered Stop to the last call where that is Stopped, and else On to each, and
+    // nothing was told twice. What was told stood in the table at the end of its run: each cycle, and
+    // each cell that was told to be broken. Or, where the fault came at rest, what was told is of the
+    // outcome of the meaning, which isn't full; so after Full it stood.
+    ensures early { IfErr result.0 (λ fault. (told : List News)
+        × IsHeardUntil T.tells fault told listener result.1 × IsEarly
+        (program_of B.places B.awaits B.left B.asks B.then) options.cells options.strict root None
+        told) }
     // Full comes only where the meaning is full.
     ensures full { let p = program_of B.places B.awaits B.left B.asks B.then options.strict root
         in result.0 ≡ Err ToldFault.Full → IsFull p options.cells }
@@ -153,10 +142,10 @@ pub(crate) fn run_beside<B: Body, P: Pool, G: Gate, T: Listener, R: Wait + Threa
         × (records : List (Option (Rec B))) × EndsRun (program_of B.places B.awaits B.left B.asks
         B.then) options.cells options.strict root seat cells records
         × AreSeenBy watch.wanted seat result.1.news)) }
-    ensures goes { telling.news ≡ [] → (s : T) → Hears T.tells telling.news s telling.listener
-        → result.0 ≢ Err ToldFault.Stopped → Hears T.tells result.1.news s result.1.listener }
-    ensures stops { telling.news ≡ [] → (s : T) → Hears T.tells telling.news s telling.listener
-        → result.0 ≡ Err ToldFault.Stopped → IsStoppedBy T.tells result.1.news s result.1.listener }
+    ensures goes { telling.news ≡ [] → HearsOn T.tells telling result.1
+        (result.0 ≢ Err ToldFault.Stopped) }
+    ensures stops { telling.news ≡ [] → IsStoppedOn T.tells telling result.1
+        (result.0 ≡ Err ToldFault.Stopped) }
     ensures full { result.0 ≡ Err ToldFault.Full → IsFull
         (program_of B.places B.awaits B.left B.asks B.then options.strict root) options.cells }
 {
@@ -271,10 +260,8 @@ fn work_told<B: Body, P: Pool, G: Gate, T: Listener, R: Wait + Threads + Sync>(
     ensures left { (me : SeatMe B) × Leaves (program_of B.places B.awaits B.left B.asks B.then)
         result.1 seat.me.0 me × (result.1 ≡ Left.Rested → result.0.me ≡ me) }
     ensures seen { telling.news ≡ [] → AreSeenBy watch.wanted result.0 result.2.news }
-    ensures goes { telling.news ≡ [] → (s : T) → Hears T.tells telling.news s telling.listener
-        → result.3 ≢ Sight.Stops → Hears T.tells result.2.news s result.2.listener }
-    ensures stops { telling.news ≡ [] → (s : T) → Hears T.tells telling.news s telling.listener
-        → result.3 ≡ Sight.Stops → IsStoppedBy T.tells result.2.news s result.2.listener }
+    ensures goes { telling.news ≡ [] → HearsOn T.tells telling result.2 (result.3 ≢ Sight.Stops) }
+    ensures stops { telling.news ≡ [] → IsStoppedOn T.tells telling result.2 (result.3 ≡ Sight.Stops) }
 {
     let (mine, theirs) = laid.split(seat);
     let bell = Parker::new();
@@ -285,10 +272,8 @@ fn work_told<B: Body, P: Pool, G: Gate, T: Listener, R: Wait + Threads + Sync>(
             × (result.0.me.1 ≡ []) × (result.0.me.0.lot ≡ theirs.me.0.lot)
             × (telling.news ≡ [] → AreSeen watch.wanted result.0 result.1.met.items
             result.1.news)
-            × (telling.news ≡ [] → (s : T) → Hears T.tells telling.news s telling.listener
-            → result.2 ≢ Sight.Stops → Hears T.tells result.1.news s result.1.listener)
-            × (telling.news ≡ [] → (s : T) → Hears T.tells telling.news s telling.listener
-            → result.2 ≡ Sight.Stops → IsStoppedBy T.tells result.1.news s result.1.listener) }
+            × (telling.news ≡ [] → HearsOn T.tells telling result.1 (result.2 ≢ Sight.Stops))
+            × (telling.news ≡ [] → IsStoppedOn T.tells telling result.1 (result.2 ≡ Sight.Stops)) }
     { observe(rt, alloc, laid, theirs, watch, bell, telling) };
     let working = move || -> (WSeat<B>, Left)
         requires { IsSync R.row × IsSync G.row × IsSend B.row × IsSend P.row

@@ -1,5 +1,5 @@
 //! A script whose deadlocks are told as they happen.
-ghost use Rattle.std.specs.Prelude.{◌≡◌, ◌≢◌, List, IfOk, Err, None, Some};
+ghost use Rattle.std.specs.Prelude.{◌≡◌, List, IfErr, IfOk, Err, None, Some};
 ghost use Rattle.tj_embed.specs.Limits.{AreLimits};
 ghost use Rattle.tj_embed.specs.ScriptRuns.{IsOutcomeOfScript, NeedsMore, script_program};
 ghost use Rattle.tj_eval.specs.Bodies.{IsMainBody};
@@ -7,7 +7,8 @@ ghost use Rattle.tj_eval.specs.Statements.{TaskState};
 ghost use Rattle.tj_report.specs.NamedValues.{IsOfName};
 ghost use Rattle.tj_syntax.specs.ScriptTexts.{IsSomeScript};
 ghost use Rattle.tj_syntax.specs.View as shown;
-ghost use Rattle.tj_told.specs.Hearing.{Hears, IsStoppedBy};
+ghost use Rattle.tj_told.specs.EndedNews.{IsEarlyOfScript};
+ghost use Rattle.tj_told.specs.Hearing.{Hears, IsHeardUntil};
 ghost use Rattle.tj_told.specs.ToldNews.{AreAnswers, AreTold};
 ghost use Rattle.tj_told.specs.declared.news.News.{News};
 
@@ -45,12 +46,12 @@ pub fn run_script_told<T: Listener, R: Wait + Threads + Sync>(
     // once; no value was told; and it answered On to each call.
     ensures told { IfOk result.0 (λ outcome. (told : List News) × Hears T.tells told listener
         result.1 × AreTold told outcome × AreAnswers None None told) }
-    // Stopped comes only where it answered Stop to the last call.
-    ensures stopped { result.0 ≡ Err ToldFault.Stopped → (told : List News)
-        × IsStoppedBy T.tells told listener result.1 }
-    // Else it answered On to each call, and nothing was told twice.
-    ensures heard { result.0 ≢ Err ToldFault.Stopped → (told : List News)
-        × Hears T.tells told listener result.1 }
+    // With a fault, it answered Stop to the last call where that is Stopped, and else On to each, and
+    // what was told stood, or is of the outcome, as of `run_told`, with the body of the
+    // script's `main` as the root.
+    ensures early { IfErr result.0 (λ fault. (told : List News)
+        × IsHeardUntil T.tells fault told listener result.1
+        × IsEarlyOfScript (shown.script script.now) options None told) }
     // Full comes only where the script needs more cells.
     ensures full { result.0 ≡ Err ToldFault.Full → NeedsMore (shown.script script.now) options }
 {
@@ -86,12 +87,12 @@ pub fn watch_script_named<T: Listener, R: Wait + Threads + Sync>(
     // answered On to each call.
     ensures told { IfOk result.0 (λ out. (told : List News) × Hears T.tells told listener result.1
         × AreTold told out.0 × AreAnswers (Some name.now) out.1 told) }
-    // Stopped comes only where it answered Stop to the last call.
-    ensures stopped { result.0 ≡ Err ToldFault.Stopped → (told : List News)
-        × IsStoppedBy T.tells told listener result.1 }
-    // Else it answered On to each call, and nothing was told twice.
-    ensures heard { result.0 ≢ Err ToldFault.Stopped → (told : List News)
-        × Hears T.tells told listener result.1 }
+    // With a fault, it answered Stop to the last call where that is Stopped, and else On to each, and
+    // what was told stood, or is of the outcome, as of `watch_named`, with the body of
+    // the script's `main` as the root.
+    ensures early { IfErr result.0 (λ fault. (told : List News)
+        × IsHeardUntil T.tells fault told listener result.1
+        × IsEarlyOfScript (shown.script script.now) options (Some name.now) told) }
     // Full comes only where the script needs more cells.
     ensures full { result.0 ≡ Err ToldFault.Full → NeedsMore (shown.script script.now) options }
 {

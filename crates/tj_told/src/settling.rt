@@ -2,7 +2,7 @@
 ghost use Rattle.std.specs.Prelude.{◌≡◌, ◌≢◌, ◌⊎◌, List, Err, IfOk};
 ghost use Rattle.tj_body.specs.Points.{IsIn};
 ghost use Rattle.tj_mean.specs.declared.outcome.Link.{Link};
-ghost use Rattle.tj_told.specs.Hearing.{Hears, IsStoppedBy};
+ghost use Rattle.tj_told.specs.Hearing.{HearsOn, IsStoppedOn};
 ghost use Rattle.tj_told.specs.ToldNews.{IsCycleOf};
 ghost use Rattle.tj_told.specs.declared.fault.ToldFault.TheVariants as fault;
 ghost use Rattle.tj_told.specs.declared.news.News.{News};
@@ -20,14 +20,12 @@ pub(crate) fn tell_rest<T: Listener>(
     cycles: &CycleList,
     telling: &mut Telling<T>,
 ) -> Result<(), ToldFault>
-    ensures only { IfOk result (λ _. (n : News) → IsIn n telling.new.news
-        → IsIn n telling.old.news ⊎ IsCycleOf cycles.now n) }
+    ensures only { (n : News) → IsIn n telling.new.news
+        → IsIn n telling.old.news ⊎ IsCycleOf cycles.now n }
     ensures all { IfOk result (λ _. (c : List Link) → IsIn c cycles.now
         → IsIn (told.Cycle c) telling.new.news) }
-    ensures goes { (s : T) → Hears T.tells telling.old.news s telling.old.listener
-        → result ≢ Err fault.Stopped → Hears T.tells telling.new.news s telling.new.listener }
-    ensures stops { (s : T) → Hears T.tells telling.old.news s telling.old.listener
-        → result ≡ Err fault.Stopped → IsStoppedBy T.tells telling.new.news s telling.new.listener }
+    ensures goes { HearsOn T.tells telling.old telling.new (result ≢ Err fault.Stopped) }
+    ensures stops { IsStoppedOn T.tells telling.old telling.new (result ≡ Err fault.Stopped) }
     ensures full { result ≢ Err fault.Full }
 {
     for cycle in cycles.items() {

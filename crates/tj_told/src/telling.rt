@@ -3,7 +3,7 @@ ghost use Rattle.tj_body.specs.Points.{IsIn};
 ghost use Rattle.std.specs.Prelude.{◌≡◌, ◌≢◌, ◌⊎◌, ◌++◌, ℕ, [], ◌∷◌, true, false, get_or};
 ghost use Rattle.std.specs.Prelude.{Ok, IfOk, IfErr};
 ghost use Rattle.std.specs.List.{list_any};
-ghost use Rattle.tj_told.specs.Hearing.{Hears, IsStoppedBy};
+ghost use Rattle.tj_told.specs.Hearing.{HearsOn, IsStoppedOn};
 ghost use Rattle.tj_told.specs.ToldNews.{AddsTo, tells_cycle};
 ghost use Rattle.tj_told.specs.declared.news.News.TheVariants as told;
 
@@ -49,10 +49,8 @@ impl<T: Listener> Telling<T> {
         ensures only { (d : News) → IsIn d self.new.news
             → (d ≡ told.Cycle links.now) ⊎ IsIn d self.old.news }
         ensures met { self.new.met ≡ self.old.met }
-        ensures goes { (s : T) → Hears T.tells self.old.news s self.old.listener
-            → result ≢ Ok Goes.Stop → Hears T.tells self.new.news s self.new.listener }
-        ensures stops { (s : T) → Hears T.tells self.old.news s self.old.listener
-            → result ≡ Ok Goes.Stop → IsStoppedBy T.tells self.new.news s self.new.listener }
+        ensures goes { HearsOn T.tells self.old self.new (result ≢ Ok Goes.Stop) }
+        ensures stops { IsStoppedOn T.tells self.old self.new (result ≡ Ok Goes.Stop) }
     {
         if self.has(links) {
             return Ok(Goes::On);
@@ -100,10 +98,8 @@ impl<T: Listener> Telling<T> {
         ensures only { (d : News) → IsIn d self.new.news
             → (d ≡ told.Value name.now value.now) ⊎ IsIn d self.old.news }
         ensures met { self.new.met ≡ self.old.met }
-        ensures goes { (s : T) → Hears T.tells self.old.news s self.old.listener
-            → result ≢ Ok Goes.Stop → Hears T.tells self.new.news s self.new.listener }
-        ensures stops { (s : T) → Hears T.tells self.old.news s self.old.listener
-            → result ≡ Ok Goes.Stop → IsStoppedBy T.tells self.new.news s self.new.listener }
+        ensures goes { HearsOn T.tells self.old self.new (result ≢ Ok Goes.Stop) }
+        ensures stops { IsStoppedOn T.tells self.old self.new (result ≡ Ok Goes.Stop) }
     {
         if has_value(self.news.items()) {
             return Ok(Goes::On);

@@ -1,7 +1,7 @@
 //! The value of a cell that is watched by its name.
 ghost use Rattle.std.specs.Prelude.{◌≡◌, ◌≢◌, Ok, IfOk, IfSome, true};
 ghost use Rattle.tj_words.specs.SeatViews.SeatSteps.{IsCellOf};
-ghost use Rattle.tj_told.specs.Hearing.{Hears, IsStoppedBy};
+ghost use Rattle.tj_told.specs.Hearing.{HearsOn, IsStoppedOn};
 ghost use Rattle.tj_told.specs.Observers.{KnowsCell, LooksOn, Observes};
 ghost use Rattle.tj_told.specs.SeenNews.{AreSeen, HasSeenValue, IsNameOf, IsSeenAs};
 
@@ -29,10 +29,8 @@ pub(crate) fn look_at_value<B: Body, T: Listener>(
     ensures seat { LooksOn seat.old seat.new }
     ensures seen { AreSeen wanted.now seat.old telling.old.met.items telling.old.news
         → AreSeen wanted.now seat.new telling.new.met.items telling.new.news }
-    ensures goes { (s : T) → Hears T.tells telling.old.news s telling.old.listener
-        → result ≢ Ok Goes.Stop → Hears T.tells telling.new.news s telling.new.listener }
-    ensures stops { (s : T) → Hears T.tells telling.old.news s telling.old.listener
-        → result ≡ Ok Goes.Stop → IsStoppedBy T.tells telling.new.news s telling.new.listener }
+    ensures goes { HearsOn T.tells telling.old telling.new (result ≢ Ok Goes.Stop) }
+    ensures stops { IsStoppedOn T.tells telling.old telling.new (result ≡ Ok Goes.Stop) }
 {
     let Some(name) = wanted else {
         return Ok(Goes::On);

@@ -1,12 +1,13 @@
 //! A run with a watch of a cell by its name.
-ghost use Rattle.std.specs.Prelude.{◌≡◌, ◌≢◌, List, IfOk, Err, Some};
+ghost use Rattle.std.specs.Prelude.{◌≡◌, List, IfErr, IfOk, Err, Some};
 ghost use Rattle.tj_body.specs.Asks.{IsFresh};
 ghost use Rattle.tj_body.specs.Programs.{program_of};
 ghost use Rattle.tj_body.specs.Rounds.{IsFull, meaning};
 ghost use Rattle.tj_embed.specs.Limits.{AreLimits};
 ghost use Rattle.tj_mean.specs.Outcomes.{IsOutcome};
 ghost use Rattle.tj_report.specs.NamedValues.{IsOfName};
-ghost use Rattle.tj_told.specs.Hearing.{Hears, IsStoppedBy};
+ghost use Rattle.tj_told.specs.EndedNews.{IsEarly};
+ghost use Rattle.tj_told.specs.Hearing.{Hears, IsHeardUntil};
 ghost use Rattle.tj_told.specs.ToldNews.{AreAnswers, AreTold};
 ghost use Rattle.tj_told.specs.declared.news.News.{News};
 
@@ -58,12 +59,14 @@ pub fn watch_named<B: Body, T: Listener, R: Wait + Threads + Sync>(
     // On to each call.
     ensures told { IfOk result.0 (λ out. (told : List News) × Hears T.tells told listener result.1
         × AreTold told out.0 × AreAnswers (Some name.now) out.1 told) }
-    // Stopped comes only where it answered Stop to the last call.
-    ensures stopped { result.0 ≡ Err ToldFault.Stopped → (told : List News)
-        × IsStoppedBy T.tells told listener result.1 }
-    // Else it answered On to each call, and nothing was told twice.
-    ensures heard { result.0 ≢ Err ToldFault.Stopped → (told : List News)
-        × Hears T.tells told listener result.1 }
+    // With a fault, it answered Stop to the last call where that is Stopped, and else On to each, and
+    // nothing was told twice. Cycles and broken cells that were told stood, or are of the outcome, as
+    // of `run_told`; a value that was told is, in some round of the meaning, that of the cell with
+    // this name.
+    ensures early { IfErr result.0 (λ fault. (told : List News)
+        × IsHeardUntil T.tells fault told listener result.1 × IsEarly
+        (program_of B.places B.awaits B.left B.asks B.then) options.cells options.strict root
+        (Some name.now) told) }
     // Full comes only where the meaning is full.
     ensures full { let p = program_of B.places B.awaits B.left B.asks B.then options.strict root
         in result.0 ≡ Err ToldFault.Full → IsFull p options.cells }

@@ -1,11 +1,8 @@
 //! A deadlock that is told while another task goes on.
-ghost use Rattle.tj_body.specs.Asks.{IsFresh};
-
 use std::alloc::Global;
 use std::sync::Wait;
 use std::thread::Threads;
 use tj_base::{Name, Oom, Shown};
-use tj_body::Body;
 use tj_embed::Options;
 use tj_examples::Knot;
 use tj_mean::LinkList;
@@ -60,19 +57,10 @@ impl Listener for Writes {
     }
 }
 
-/// What is told of two tasks that wait for each other.
+/// What is told of two tasks that wait for each other, by looks every two milliseconds.
 pub(crate) fn told_knot<R: Wait + Threads + Sync + AllocGlobal>(rt: &R) -> Option<Vec<u8>> {
-    told_by(rt, TaskBody::new(Replay::of(rt.alloc(), Knot::Root), 100))
-}
-
-/// What is told of this root and all that it forks, by looks every two milliseconds.
-pub(crate) fn told_by<B: Body, R: Wait + Threads + Sync + AllocGlobal>(
-    rt: &R,
-    root: B,
-) -> Option<Vec<u8>>
-    requires { IsFresh B.places B.awaits B.left 1 root }
-{
     let alloc = rt.alloc();
+    let root = TaskBody::new(Replay::of(alloc, Knot::Root), 100);
     let writes = Writes {
         alloc,
         text: Vec::new(alloc),

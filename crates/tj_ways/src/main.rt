@@ -11,6 +11,7 @@ mod native;
 mod polled;
 mod rows;
 mod scripts;
+mod stood;
 mod told;
 mod values;
 mod watched;
@@ -21,7 +22,7 @@ use explained::explained_joins;
 use kept::{kept_broken, kept_circle};
 use knots::told_knot;
 use native::{fibonacci, in_a_knot, sum};
-use polled::three_ways;
+use polled::polled;
 use rows::handed_to_a_child;
 use scripts::{on_a_cycle, planned_and_run, position_of_a_fault, which_owe};
 use std::io;
@@ -29,12 +30,13 @@ use std::process::ExitCode;
 use std::random::RandomSource;
 use std::sync::Wait;
 use std::thread::Threads;
+use stood::full_beside_a_knot;
 use tj_ports::{StdSink, put_all};
 use values::values_by_name;
-use watched::watched;
+use watched::{watched, watched_plan};
 
 /// What all of them give, where memory lasts.
-fn texts<R: Wait + Threads + RandomSource + Sync + AllocGlobal>(rt: &R) -> Option<[Vec<u8>; 17]> {
+fn texts<R: Wait + Threads + RandomSource + Sync + AllocGlobal>(rt: &R) -> Option<[Vec<u8>; 19]> {
     Some([
         which_owe(rt)?,
         on_a_cycle(rt)?,
@@ -48,11 +50,13 @@ fn texts<R: Wait + Threads + RandomSource + Sync + AllocGlobal>(rt: &R) -> Optio
         told_knot(rt)?,
         kept_circle(rt)?,
         kept_broken(rt)?,
+        full_beside_a_knot(rt)?,
         watched(rt)?,
+        watched_plan(rt)?,
         planned_and_run(rt)?,
         explained_joins(rt.alloc())?,
         values_by_name(rt)?,
-        three_ways(rt)?,
+        polled(rt)?,
     ])
 }
 

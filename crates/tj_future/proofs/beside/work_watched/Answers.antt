@@ -22,10 +22,10 @@ join-watched-requires-send-F g c κs within =
 
 pub returns-clause-left : goal.returns-clause-left
 returns-clause-left g c = let b = g.B.Body in let joined = c.join-watched in
-    leaves_taken (program_of b.places b.awaits b.left b.asks b.then) c.args.laid.now.cells c.args.seat.me.0
+    leaves_taken (program_of b.places b.awaits b.left b.asks b.then) c.args.laid.now.cells 0 c.args.seat.me.0
     c.requires.room joined.result.1.0 joined.result.0.1 c.take_in-seat.result.0 c.take_in-seat.result.1
-    joined.result.1.1 joined.result.0.0 c.split-mine.result.0.me.0 c.split-mine.result.1.me.0 (ap (λ m. m.0) c.split-mine.ensures.view)
-    (ap (λ m. m.0) c.split-mine.ensures.other_view) joined.ensures.second.1 joined.ensures.first.3
+    joined.result.1.1 joined.result.0.0 c.split-mine.result.0.me.0 c.split-mine.result.1.me.0
+    (ap (λ m. m.0) c.split-mine.ensures.view) (ap (λ m. m.0) c.split-mine.ensures.other_view) joined.ensures.second.1 joined.ensures.first.3
     joined.ensures.first.4 c.take_in-seat.ensures.rested c.take_in-seat.ensures.stopped
 
 pub returns-clause-watched : goal.returns-clause-watched
