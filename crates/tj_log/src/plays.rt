@@ -2,6 +2,7 @@
 ghost use Rattle.tj_log.specs.Logs.{cut, glued, gone, logging};
 
 use crate::entry::Logged;
+use crate::table::LogRule;
 use atomic_table::{Join, Play, Split};
 use std::marker::PhantomData;
 
@@ -70,17 +71,17 @@ impl<S, V, M: Play<S, V>, O: Does> Play<S, Logged<V>> for Logging<M, O> {
 }
 
 /// The caller's way to cut a view in two, and to make one of two.
-pub(crate) struct Halves<P> {
-    rule: PhantomData<P>,
+pub(crate) struct Halves<S, K, P> {
+    rule: PhantomData<(S, K, P)>,
 }
 
-impl<V, P: Split<V>> Split<Logged<V>> for Halves<P> {
+impl<S, V, K, P: LogRule<S, V, K>> Split<Logged<V>> for Halves<S, K, P> {
     ghost left = { cut P.left };
 
     ghost right = { λ v. gone (P.right v.own) };
 }
 
-impl<V, P: Join<V>> Join<Logged<V>> for Halves<P> {
+impl<S, V, K, P: LogRule<S, V, K>> Join<Logged<V>> for Halves<S, K, P> {
     ghost both = { glued P.both };
 
     ghost spent = { gone P.spent };

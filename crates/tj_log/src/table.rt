@@ -9,20 +9,32 @@ ghost use Rattle.tj_log.specs.Runs.{terms_of};
 use crate::entry::{Did, Logged};
 use crate::plays::{Adds, Exchanges, Halves, Loads, Logging, Stores, Subs, Swaps};
 use crate::seat::LogSeat;
-use atomic_table::{Closed, Join, Play, Refused, Split, Table, TableRule};
-use std::alloc::Allocator;
+use atomic_table::{Closed, Play, Refused, Table, TableRule};
+use std::alloc::{Allocator, Global};
 use std::marker::{Model, PhantomData};
 use std::sync::Wait;
 use std::time::Duration;
 
-/// What a caller says of its table beside the rule.
-pub trait LogRule<S, V, K>: TableRule<S, V, K> + Split<V> + Join<V> {
+/// What a caller says of its table. It is one trait, so that each claim of a call names one of the rule's dictionaries.
+pub trait LogRule<S, V, K> {
     ghost use Rattle.std.specs.Prelude.{ℕ, List};
-    ghost use Rattle.atomic_table.specs.Table.{Me, Step};
+    ghost use Rattle.atomic_table.specs.Table.{Me, State, Step};
     ghost use Rattle.tj_log.specs.declared.entry.Did.{Did};
 
+    // The rule: what holds between any two steps.
+    ghost holds: { K → State S V → Type 0 };
+    // The view of the first seat.
+    ghost first: { K → V };
     // The words and the slots at first.
     ghost opens: { K → List ℕ → List S → Type 0 };
+    // At a split: what the first seat keeps of its view.
+    ghost left: { V → V };
+    // What the second seat has then.
+    ghost right: { V → V };
+    // At a join: what the two views are as one.
+    ghost both: { V → V → V };
+    // What is left of the view that was taken in.
+    ghost spent: { V };
     // What a join asks of the seat's view, and of the one that it takes in.
     ghost may_join: { V → V → Type 0 };
     // What each step tells: of what it does, of the step, the seat before, the number found and the seat after.
@@ -44,13 +56,13 @@ impl<S, V, K, P: LogRule<S, V, K>> TableRule<S, Logged<V>, K> for Logs<P> {
     ghost first = { λ key. opened (P.first key) };
 }
 
-/// A table under a rule of the caller's.
+/// A table under a rule of the caller's, in memory of the program's allocator.
 #[derive(Drop)]
-pub struct LogTable<S, V, K, P: LogRule<S, V, K>, A: Allocator> {
-    table: Table<S, Logged<V>, K, Logs<P>, A>,
+pub struct LogTable<S, V, K, P: LogRule<S, V, K>> {
+    table: Table<S, Logged<V>, K, Logs<P>, Global>,
 }
 
-impl<S, V, K, P: LogRule<S, V, K>, A: Allocator> Model for LogTable<S, V, K, P, A> {
+impl<S, V, K, P: LogRule<S, V, K>> Model for LogTable<S, V, K, P> {
     ghost use Rattle.tj_log.specs.Shown.{TableShown};
 
     ghost Value = { TableShown K };
@@ -64,13 +76,13 @@ impl<S, V, K, P: LogRule<S, V, K>, A: Allocator> Model for LogTable<S, V, K, P, 
     } };
 }
 
-impl<S, V, K, P: LogRule<S, V, K>, A: Allocator> LogTable<S, V, K, P, A> {
+impl<S, V, K, P: LogRule<S, V, K>> LogTable<S, V, K, P> {
     pub fn new<B: Allocator>(
-        alloc: A,
+        alloc: Global,
         words: &[u64],
         slots: Vec<S, B>,
         about: &K,
-    ) -> Result<(LogTable<S, V, K, P, A>, LogSeat<S, V>), Refused<S, B>>
+    ) -> Result<(LogTable<S, V, K, P>, LogSeat<S, V>), Refused<S, B>>
         requires { P.holds about.now (opening words.now slots.items (P.first about.now))
             × P.opens about.now words.now slots.items }
         // A new table has these words and slots, and its first seat the first view of the rule.
@@ -179,7 +191,10 @@ impl<S, V, K, P: LogRule<S, V, K>, A: Allocator> LogTable<S, V, K, P, A> {
             × (result.befores ≡ []) × (seat.new.took_befores ≡ seat.old.took_befores)
             × (result.took_befores ≡ []) }
     {
-        let other = self.table.shared.split_seat::<Halves<P>>(&mut seat.seat);
+        let other = self
+            .table
+            .shared
+            .split_seat::<Halves<S, K, P>>(&mut seat.seat);
         LogSeat { seat: other }
     }
 
@@ -197,7 +212,7 @@ impl<S, V, K, P: LogRule<S, V, K>, A: Allocator> LogTable<S, V, K, P, A> {
         let LogSeat { seat: taken } = other;
         self.table
             .shared
-            .join_seat::<Halves<P>>(&mut seat.seat, taken);
+            .join_seat::<Halves<S, K, P>>(&mut seat.seat, taken);
     }
 
     /// A plain read and write of the slot that the seat took last. It is no step.
@@ -224,7 +239,7 @@ impl<S, V, K, P: LogRule<S, V, K>, A: Allocator> LogTable<S, V, K, P, A> {
     }
 
     /// Closes the table with a seat.
-    pub fn close_with(self, seat: LogSeat<S, V>) -> Closed<S, A>
+    pub fn close_with(self, seat: LogSeat<S, V>) -> Closed<S, Global>
         requires { seat.table_id ≡ self.shared.table_id }
         // A closed table has as many words and slots as before.
         ensures counts { (slots_len result.words ≡ self.shared.table_id.words)

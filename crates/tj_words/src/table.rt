@@ -14,7 +14,7 @@ use crate::owner::word_of_owner;
 use crate::phase::Phase;
 use crate::record::Rec;
 use crate::view::View;
-use atomic_table::{Join, Refused, Split, TableRule};
+use atomic_table::Refused;
 use std::alloc::Global;
 use std::snapshot::Snapshot;
 use tj_base::{CellId, Oom};
@@ -31,47 +31,32 @@ pub struct Key<B> {
     pub strict: bool,
 }
 
-/// The law of the table.
+/// The law of the table: what stands at first and between any two steps, how seats are split and joined, and what each
+/// step tells.
 pub struct Law;
 
-impl<B: Body> TableRule<Option<Rec<B>>, View<B>, Key<B>> for Law {
-    ghost use Rattle.tj_body.specs.Programs.{program_of};
-    ghost use Rattle.tj_words.specs.Law.{Rule};
-    ghost use Rattle.tj_words.specs.LawParts.FirstState.{first_view};
-
-    ghost holds = { Rule (program_of B.places B.awaits B.left B.asks B.then) };
-
-    ghost first = { λ key. first_view key.cells key.root.value key.strict };
-}
-
-/// How a view is cut in two.
-impl<B: Body> Split<View<B>> for Law {
-    ghost use Rattle.tj_words.specs.SeatViews.Views.{left_half, right_half};
-
-    ghost left = { left_half };
-
-    ghost right = { right_half };
-}
-
-/// How two views are made one.
-impl<B: Body> Join<View<B>> for Law {
-    ghost use Rattle.tj_words.specs.SeatViews.Views.{both, spent};
-
-    ghost both = { both };
-
-    ghost spent = { spent };
-}
-
-/// What stands at first, and what each step tells.
 impl<B: Body> LogRule<Option<Rec<B>>, View<B>, Key<B>> for Law {
     ghost use Rattle.std.specs.Prelude.{◌≡◌};
     ghost use Rattle.tj_body.specs.Programs.{program_of};
     ghost use Rattle.tj_words.specs.CallLaws.StepLogs.{IsTold};
-    ghost use Rattle.tj_words.specs.LawParts.FirstState.{first_slots, first_words};
-    ghost use Rattle.tj_words.specs.SeatViews.Views.{IsIdle};
+    ghost use Rattle.tj_words.specs.Law.{Rule};
+    ghost use Rattle.tj_words.specs.LawParts.FirstState.{first_slots, first_view, first_words};
+    ghost use Rattle.tj_words.specs.SeatViews.Views.{IsIdle, both, left_half, right_half, spent};
+
+    ghost holds = { Rule (program_of B.places B.awaits B.left B.asks B.then) };
+
+    ghost first = { λ key. first_view key.cells key.root.value key.strict };
 
     ghost opens = { λ key ws xs. (ws ≡ first_words key.cells)
         × (xs ≡ first_slots key.cells key.root.value) };
+
+    ghost left = { left_half };
+
+    ghost right = { right_half };
+
+    ghost both = { both };
+
+    ghost spent = { spent };
 
     ghost may_join = { λ v w. IsIdle w };
 
@@ -84,7 +69,7 @@ pub type WSeat<B> = LogSeat<Option<Rec<B>>, View<B>>;
 /// A table of words and records.
 #[derive(Drop)]
 pub struct Laid<B: Body> {
-    pub(crate) table: LogTable<Option<Rec<B>>, View<B>, Key<B>, Law, Global>,
+    pub(crate) table: LogTable<Option<Rec<B>>, View<B>, Key<B>, Law>,
     pub(crate) cells: u32,
     pub(crate) strict: bool,
     pub(crate) root: Snapshot<B>,

@@ -1,5 +1,5 @@
 -- A table may be lent to another thread, where its tasks' bodies may go there.
-use Rattle.tj_run.proofs.Prelude.{Bool, [], false, send, true, ◌∷◌}
+use Rattle.tj_run.proofs.Prelude.{Bool, [], false, true, ◌∷◌}
 use base.Shift.{Keyless}
 use denote.Builtin.{u32}
 use denote.Exit.{Last, if_kept, left, unseen}
@@ -8,22 +8,17 @@ use denote.RattleType.{RattleType}
 use denote.Struct.Declared.{row, shape}
 use denote.Struct.Tuple.{type_at}
 use mir.Syntax.{Dict, Sym, given}
-use Rattle.std.proofs.Crossing.{crosses, frees, sync}
+use Rattle.std.proofs.Crossing.{crosses}
 use Rattle.tj_body.specs.declared.body.Body.{Ghosts}
 use Rattle.tj_log.proofs.table.LogTable.TheSendSync as table_sends
 use Rattle.std.proofs.option.Option.TheSendSync as option_sends
-use Rattle.std.specs.contracts.alloc.Global as heap
-use Rattle.std.specs.contracts.impls.GlobalAllocator.TheImpl as heap_allocates
 use Rattle.std.specs.contracts.option.Option as option
 use Rattle.tj_words.proofs.record.Rec.TheSendSync as record_sends
 use Rattle.tj_words.specs.contracts.record.Rec as record_row
 use Rattle.tj_words.specs.contracts.table.Key as key
 use Rattle.tj_words.specs.contracts.table.Laid as laid
 use Rattle.tj_words.specs.contracts.table.Law as law
-use Rattle.tj_words.specs.contracts.table.LawJoinView.TheImpl as law_joins
 use Rattle.tj_words.specs.contracts.table.LawLogRuleOptionRecViewKey.TheImpl as law_logs
-use Rattle.tj_words.specs.contracts.table.LawSplitView.TheImpl as law_splits
-use Rattle.tj_words.specs.contracts.table.LawTableRuleOptionRecViewKey.TheImpl as law_rules
 use Rattle.tj_words.specs.contracts.view.View as view
 
 -- a value that is seen no more says the same to every thread
@@ -43,9 +38,7 @@ slot_send B s = option_sends.the_send (record_row.the_row B) (record_sends.the_s
 pub laid_sync : (B : RattleType) (g : Ghosts B.Denot) → IsSend B → IsSync (laid.the_row B g)
 laid_sync B g s = recorded_sync _ _ _ (laid.the_type B g).to_one (struct_sync (shape (laid.the_type B g)) (
   table_sends.the_sync (option.the_row (record_row.the_row B)) (view.the_row B) (key.the_row B) law.the_row
-      heap.the_row (law_logs.ghosts B g no_calls no_calls) (law_rules.ghosts B g no_calls no_calls)
-      (law_splits.ghosts B g no_calls no_calls) (law_joins.ghosts B g no_calls no_calls) heap_allocates.ghosts
-      (slot_send B s) send sync frees,
+      (law_logs.ghosts B g no_calls no_calls) (slot_send B s),
   (
     search sendable depth 10,
     (

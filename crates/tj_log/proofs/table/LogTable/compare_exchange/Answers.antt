@@ -6,7 +6,7 @@ use Rattle.tj_log.proofs.table.LogTable.compare_exchange.Goals as goal
 
 pub compare_exchange-requires : goal.compare_exchange-requires
 compare_exchange-requires g c =
-    let r = subst₂ (λ t s. Asks g.P.TableRule.holds g.P.LogRule.tells g.M.Play.then Exchange c.args.old c.args.new
+    let r = subst₂ (λ t s. Asks g.P.LogRule.holds g.P.LogRule.tells g.M.Play.then Exchange c.args.old c.args.new
     c.args.word t s)
     (sym c.self.view_is) (sym c.seat.view_is) c.requires in
     (r.0, r.1, steps_allowed _ Exchange c.args.old c.args.new _ _ _ _ g.M.Play.then r.2 r.3 c.seat.inside.same_slots)

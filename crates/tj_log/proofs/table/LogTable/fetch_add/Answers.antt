@@ -6,6 +6,6 @@ use Rattle.tj_log.proofs.table.LogTable.fetch_add.Goals as goal
 
 pub fetch_add-requires : goal.fetch_add-requires
 fetch_add-requires g c =
-    let r = subst₂ (λ t s. Asks g.P.TableRule.holds g.P.LogRule.tells g.M.Play.then Add c.args.k 0 c.args.word t s)
+    let r = subst₂ (λ t s. Asks g.P.LogRule.holds g.P.LogRule.tells g.M.Play.then Add c.args.k 0 c.args.word t s)
     (sym c.self.view_is) (sym c.seat.view_is) c.requires in
     (r.0, r.1, steps_allowed _ Add c.args.k 0 _ _ _ _ g.M.Play.then r.2 r.3 c.seat.inside.same_slots)

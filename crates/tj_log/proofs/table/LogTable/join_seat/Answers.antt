@@ -3,7 +3,7 @@ use Rattle.tj_log.proofs.table.LogTable.join_seat.Goals as goal
 
 pub join_seat-requires : goal.join_seat-requires
 join_seat-requires g c =
-    let r = join_asked g.P.TableRule.holds g.P.Join.both g.P.Join.spent g.P.LogRule.may_join c.self.view_is
+    let r = join_asked g.P.LogRule.holds g.P.LogRule.both g.P.LogRule.spent g.P.LogRule.may_join c.self.view_is
     c.seat.view_is c.other.view_is c.requires in (
       r.0,
       r.1,
