@@ -17,7 +17,7 @@ use Rattle.tj_cells.proofs.DueWords.{due_of, both_written}
 use Rattle.tj_body.specs.declared.point.Value.TheVariants as value
 use Rattle.tj_body.specs.declared.point.Entry.TheVariants as entry
 use Rattle.tj_words.specs.declared.offsets.Once.TheVariants as once
-use Rattle.tj_words.specs.declared.record.Fill.TheVariants as fill
+use Rattle.tj_record.specs.declared.record.Fill.TheVariants as fill
 
 -- the value of a fill is one
 pub says_one : (born : List Reference) (f : Fill) (x y : Value) → FillSays born f x → FillSays born f y → x ≡ y

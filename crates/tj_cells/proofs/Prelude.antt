@@ -27,8 +27,8 @@ pub use Rattle.tj_words.specs.SeatViews.KnowsMore.{KnowsMore}
 pub use Rattle.tj_words.specs.SeatViews.TaskLists.{noted}
 pub use Rattle.tj_words.specs.Words.Lists.{All}
 pub use Rattle.tj_words.specs.Words.Values.{fill_in, tag_word}
-pub use Rattle.tj_words.specs.declared.record.Fill.{Fill}
-pub use Rattle.tj_words.specs.declared.record.Rec.{Rec}
+pub use Rattle.tj_record.specs.declared.record.Fill.{Fill}
+pub use Rattle.tj_record.specs.declared.record.Rec.{Rec}
 pub use Rattle.tj_words.specs.declared.view.Custody.{Custody}
 pub use Rattle.tj_words.specs.declared.view.Due.{Due}
 pub use Rattle.tj_words.specs.declared.view.View.{View}

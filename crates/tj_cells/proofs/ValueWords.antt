@@ -11,7 +11,7 @@ use Rattle.tj_cells.specs.declared.seen.Seen.{Seen}
 use Rattle.tj_base.specs.declared.cell.Sort.TheVariants as sort
 use Rattle.tj_body.specs.declared.point.Value.TheVariants as value
 use Rattle.tj_body.specs.declared.point.Entry.TheVariants as entry
-use Rattle.tj_words.specs.declared.record.Fill.TheVariants as fill
+use Rattle.tj_record.specs.declared.record.Fill.TheVariants as fill
 use Rattle.tj_cells.specs.declared.seen.Seen.TheVariants as seen
 
 -- what the words stand for is a value, or that the cell is broken

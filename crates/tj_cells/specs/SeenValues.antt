@@ -8,8 +8,8 @@ use Rattle.tj_body.specs.declared.point.Reference.{Reference}
 use Rattle.tj_body.specs.declared.point.Value.TheVariants as value
 use Rattle.tj_body.specs.declared.point.Entry.{Entry}
 use Rattle.tj_body.specs.declared.point.Entry.TheVariants as entry
-use Rattle.tj_words.specs.declared.record.Fill.{Fill}
-use Rattle.tj_words.specs.declared.record.Fill.TheVariants as fill
+use Rattle.tj_record.specs.declared.record.Fill.{Fill}
+use Rattle.tj_record.specs.declared.record.Fill.TheVariants as fill
 use Rattle.tj_words.specs.declared.view.Filled.{Filled}
 use Rattle.tj_words.specs.declared.view.View.{View}
 use Rattle.tj_words.specs.Words.Lists.{All}

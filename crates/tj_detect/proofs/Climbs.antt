@@ -6,7 +6,7 @@ use Rattle.std.specs.Prelude.{Option}
 use Rattle.tj_log.specs.Shown.{SeatShown}
 use Rattle.tj_tree.proofs.Lifts.{goes_itself}
 use Rattle.tj_tree.specs.declared.node.TaskNode.{TaskNode}
-use Rattle.tj_words.specs.declared.record.Rec.{Rec}
+use Rattle.tj_record.specs.declared.record.Rec.{Rec}
 use Rattle.tj_words.specs.declared.table.Laid.{Laid}
 use Rattle.std.proofs.Common.{length-append, ◌++◌}
 use Rattle.tj_tree.specs.declared.node.Node.{Node}

@@ -18,7 +18,7 @@ use Rattle.tj_detect.specs.TreeReads.{IsWithinCost, depth_in}
 use Rattle.tj_detect.proofs.Prelude.{InEachTree, TreeShown, subst}
 use Rattle.tj_tree.specs.Walk.{TakesFewSteps}
 use Rattle.tj_words.specs.SeatViews.TreeReads.{IsLater, KnowsTask}
-use Rattle.tj_words.specs.declared.record.Rec.{Rec}
+use Rattle.tj_record.specs.declared.record.Rec.{Rec}
 use Rattle.tj_words.specs.declared.view.View.{View}
 use Rattle.tj_words.proofs.SeatLoads.NodeLooks.{task_later}
 use Rattle.tj_log.specs.Shown.{SeatShown}

@@ -11,7 +11,7 @@ use Rattle.tj_words.specs.declared.phase.Phase.{Phase}
 use Rattle.tj_words.specs.declared.phase.Phase.TheVariants.{Waiting}
 use Rattle.tj_words.specs.declared.phase.Walk.{Walk}
 use Rattle.tj_words.specs.declared.phase.Walk.TheVariants.{Walking, Alarmed}
-use Rattle.tj_words.specs.declared.record.Rec.{Rec}
+use Rattle.tj_record.specs.declared.record.Rec.{Rec}
 use Rattle.tj_words.specs.declared.view.View.{View}
 use Rattle.tj_words.specs.Steps.StepEvents.{wait_in}
 use Rattle.tj_words.specs.Words.Owners.{owner_word}

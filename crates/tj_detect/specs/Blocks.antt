@@ -16,7 +16,7 @@ use Rattle.tj_events.specs.Events.{start_walk, others_read, count_read, owner_re
 use Rattle.tj_events.specs.Events.{MayReadOthers, MayCount, MayReadOwner, MaySettle}
 use Rattle.tj_events.specs.Facts.{Watches}
 use Rattle.tj_events.specs.WaitGraph.{Reaches, IsOnCycle, IsOnCycleOf}
-use Rattle.tj_words.specs.declared.record.Rec.{Rec}
+use Rattle.tj_record.specs.declared.record.Rec.{Rec}
 use Rattle.tj_words.specs.declared.table.Key.{Key}
 use Rattle.tj_words.specs.declared.view.Custody.{Custody}
 use Rattle.tj_words.specs.declared.view.Does.{Does}

@@ -2,7 +2,7 @@
 use Rattle.std.specs.Prelude.{◌≡◌, ℕ, Bool, [], Option, None, IsSomeAnd}
 use Rattle.tj_log.specs.Shown.{SeatShown}
 use Rattle.tj_body.specs.Programs.{Program}
-use Rattle.tj_words.specs.declared.record.Rec.{Rec}
+use Rattle.tj_record.specs.declared.record.Rec.{Rec}
 use Rattle.tj_words.specs.declared.table.Laid.{Laid}
 use Rattle.tj_words.specs.declared.view.View.{View}
 use Rattle.tj_words.specs.SeatViews.SeatSteps.{IsCellOf, IsSeatOf}

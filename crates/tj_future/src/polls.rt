@@ -6,7 +6,7 @@ ghost use Rattle.futures.specs.Task.{Covers, Keeps};
 ghost use Rattle.tj_body.specs.Programs.{program_of};
 ghost use Rattle.tj_task.specs.Replays.{replay_turn};
 ghost use Rattle.tj_task.specs.TaskBodies.{task_asks, task_awaits, task_left, task_places, task_then};
-ghost use Rattle.tj_words.specs.declared.record.Rec.{Rec};
+ghost use Rattle.tj_record.specs.declared.record.Rec.{Rec};
 ghost use Rattle.tj_words.specs.declared.view.View.{View};
 ghost use Rattle.tj_words.specs.SeatViews.SeatSteps.{IsCellOf, IsSameSeat, IsSeatOf};
 ghost use Rattle.tj_words.specs.SeatViews.Views.{IsIdle};

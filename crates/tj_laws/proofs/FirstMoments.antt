@@ -8,7 +8,7 @@ use Rattle.tj_body.specs.RoundPoints.{TasksStart}
 use Rattle.tj_body.specs.declared.ask.Answer.{Answer}
 use Rattle.tj_body.specs.declared.ask.Ask.{Ask}
 use Rattle.tj_events.specs.Laws.{StartMeetsFacts}
-use Rattle.tj_words.specs.declared.record.Rec.{Rec}
+use Rattle.tj_record.specs.declared.record.Rec.{Rec}
 use Rattle.tj_words.specs.declared.view.View.{View}
 use Rattle.tj_words.specs.Law.{Rule}
 use Rattle.tj_words.specs.LawParts.Contents.{WordsSay}

@@ -23,7 +23,7 @@ use Rattle.tj_body.proofs.RoundPoints.{points_ask}
 use Rattle.tj_events.specs.Laws.{EventKeepsFacts}
 use Rattle.tj_events.specs.WalkLaws.{OthersAreFew}
 use Rattle.tj_words.specs.declared.offsets.Once.TheVariants as once
-use Rattle.tj_words.specs.declared.record.Rec.{Rec}
+use Rattle.tj_record.specs.declared.record.Rec.{Rec}
 use Rattle.tj_words.specs.declared.table.Key.{Key}
 use Rattle.tj_words.specs.declared.view.Does.TheVariants as does
 use Rattle.tj_words.specs.declared.view.Due.{Due}

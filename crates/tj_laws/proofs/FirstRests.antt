@@ -25,7 +25,7 @@ use Rattle.tj_events.specs.Laws.{EventKeepsFacts, StartMeetsFacts}
 use Rattle.tj_events.specs.WalkLaws.{OthersAreFew}
 use Rattle.tj_events.specs.declared.walk.Way.TheVariants.{Other}
 use Rattle.tj_log.specs.Runs.{IsPlain}
-use Rattle.tj_words.specs.declared.record.Rec.{Rec}
+use Rattle.tj_record.specs.declared.record.Rec.{Rec}
 use Rattle.tj_words.specs.declared.table.Key.{Key}
 use Rattle.tj_words.specs.declared.view.Does.TheVariants as does
 use Rattle.tj_words.specs.declared.view.View.{View}

@@ -28,7 +28,7 @@ use Rattle.std.specs.List.{flat_map}
 use Rattle.tj_events.specs.Laws.{EventKeepsFacts, StartMeetsFacts}
 use Rattle.tj_events.specs.WalkLaws.{OthersAreFew}
 use Rattle.tj_words.specs.declared.offsets.Once.TheVariants as once
-use Rattle.tj_words.specs.declared.record.Rec.{Rec}
+use Rattle.tj_record.specs.declared.record.Rec.{Rec}
 use Rattle.tj_words.specs.declared.table.Key.{Key}
 use Rattle.tj_words.specs.declared.view.Due.{Due}
 use Rattle.tj_words.specs.Law.{Rule}

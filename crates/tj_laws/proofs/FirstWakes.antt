@@ -30,7 +30,7 @@ use Rattle.tj_words.specs.declared.head.Head.{Head}
 use Rattle.tj_words.specs.declared.head.Head.TheVariants.{Empty, Shut, Task}
 use Rattle.tj_words.specs.declared.phase.Phase.TheVariants as phase
 use Rattle.tj_words.specs.declared.phase.Walk.TheVariants as walk
-use Rattle.tj_words.specs.declared.record.Rec.{Rec}
+use Rattle.tj_record.specs.declared.record.Rec.{Rec}
 use Rattle.tj_words.specs.declared.table.Key.{Key}
 use Rattle.tj_words.specs.declared.view.Custody.{Custody}
 use Rattle.tj_words.specs.declared.view.Does.{Does}
@@ -54,7 +54,7 @@ use Rattle.tj_words.specs.LawParts.Chains.{head_of}
 use Rattle.tj_words.specs.LawParts.FirstState.{first_slots, first_words, root_record}
 use Rattle.tj_words.specs.LawParts.LiveCount.{Backing}
 use Rattle.tj_words.specs.LawParts.NamedCells.{record_cells}
-use Rattle.tj_words.specs.LawParts.TaskRecords.{own}
+use Rattle.tj_record.specs.TaskRecords.{own}
 use Rattle.tj_words.specs.LawParts.Telling.{Tells}
 use Rattle.tj_words.specs.SeatViews.KnownEntries.{HasSeen, ToldBy}
 use Rattle.tj_words.specs.SeatViews.SeatSteps.{IsCount, SeatMe}

@@ -30,7 +30,7 @@ use Rattle.tj_words.specs.Words.Offsets.{phase_at, word}
 use Rattle.tj_words.specs.Words.Phases.{phase_in}
 use Rattle.tj_words.specs.declared.phase.Phase.{Phase}
 use Rattle.tj_words.specs.declared.phase.Phase.TheVariants as phase
-use Rattle.tj_words.specs.declared.record.Rec.{Rec}
+use Rattle.tj_record.specs.declared.record.Rec.{Rec}
 use Rattle.tj_words.specs.declared.table.Key.{Key}
 use Rattle.tj_words.specs.declared.view.View.{View}
 use Rattle.tj_laws.proofs.PhaseRows.{phases_for_good}

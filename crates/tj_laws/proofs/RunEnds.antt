@@ -15,7 +15,7 @@ use Rattle.tj_words.specs.LawParts.Contents.{Contents, contents_of, drawn_in}
 use Rattle.tj_words.specs.Steps.StepEvents.{IsBegun}
 use Rattle.tj_words.specs.Words.Offsets.{own_at, word}
 use Rattle.tj_words.specs.declared.closed.RestCell.{RestCell}
-use Rattle.tj_words.specs.declared.record.Rec.{Rec}
+use Rattle.tj_record.specs.declared.record.Rec.{Rec}
 use Rattle.tj_words.specs.declared.view.View.{View}
 use Rattle.tj_words.proofs.Lemmas.{begun_there}
 use Rattle.tj_words.proofs.Meaning.RestingCells.{owner_forth}

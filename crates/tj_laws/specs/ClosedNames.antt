@@ -11,7 +11,7 @@ use Rattle.tj_runs.specs.OwnRuns.{AreTheLast}
 use Rattle.tj_words.specs.CallLaws.RestedRuns.{Ruled, live_in}
 use Rattle.tj_words.specs.LawParts.TreeWords.{IsCell}
 use Rattle.tj_words.specs.declared.closed.RestCell.{RestCell}
-use Rattle.tj_words.specs.declared.record.Rec.{Rec}
+use Rattle.tj_record.specs.declared.record.Rec.{Rec}
 use Rattle.tj_words.specs.declared.view.View.{View}
 
 -- Where LIVE is 0 at the end of the run of a closed table: a cell that a seat's view names at some moment of that run

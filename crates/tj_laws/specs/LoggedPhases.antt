@@ -10,7 +10,7 @@ use Rattle.tj_log.specs.Laws.{IsLastPut, StandsIn}
 use Rattle.tj_log.specs.Runs.{Past, log_of, steps, took_of}
 use Rattle.tj_log.specs.declared.entry.Entry.{Entry}
 use Rattle.tj_words.specs.declared.phase.Phase.TheVariants as phase
-use Rattle.tj_words.specs.declared.record.Rec.{Rec}
+use Rattle.tj_record.specs.declared.record.Rec.{Rec}
 use Rattle.tj_words.specs.declared.table.Key.{Key}
 use Rattle.tj_words.specs.declared.view.View.{View}
 use Rattle.tj_words.specs.CallLaws.LoggedRuns.{HasRun}

@@ -17,7 +17,7 @@ use Rattle.tj_words.specs.CallLaws.RestedRuns.{Ruled}
 use Rattle.tj_words.specs.LawParts.Contents.{Contents, contents_of}
 use Rattle.tj_words.specs.LawParts.ShownState.{reference_of}
 use Rattle.tj_words.specs.declared.closed.RestCell.{RestCell}
-use Rattle.tj_words.specs.declared.record.Rec.{Rec}
+use Rattle.tj_record.specs.declared.record.Rec.{Rec}
 use Rattle.tj_words.specs.declared.table.Key.{Key}
 use Rattle.tj_words.specs.declared.view.View.{View}
 use Rattle.tj_laws.specs.Moments.{contents_at}

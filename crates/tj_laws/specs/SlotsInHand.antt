@@ -11,7 +11,7 @@ use Rattle.tj_log.specs.Runs.{Past, slots_of, steps}
 use Rattle.tj_log.specs.declared.entry.Entry.{Entry}
 use Rattle.tj_words.specs.CallLaws.LoggedRuns.{HasRun}
 use Rattle.tj_words.specs.Words.Lists.{AreApart}
-use Rattle.tj_words.specs.declared.record.Rec.{Rec}
+use Rattle.tj_record.specs.declared.record.Rec.{Rec}
 use Rattle.tj_words.specs.declared.table.Key.{Key}
 use Rattle.tj_words.specs.declared.view.View.{View}
 

@@ -13,7 +13,7 @@ use Rattle.tj_body.specs.declared.point.Point.{Point}
 use Rattle.tj_body.specs.declared.point.Reference.{Reference}
 use Rattle.tj_body.specs.declared.point.Task.{Task}
 use Rattle.tj_words.specs.declared.offsets.Once.TheVariants as once
-use Rattle.tj_words.specs.declared.record.Rec.{Rec}
+use Rattle.tj_record.specs.declared.record.Rec.{Rec}
 use Rattle.tj_words.specs.declared.table.Key.{Key}
 use Rattle.tj_words.specs.CallLaws.RestedRuns.{Ruled}
 use Rattle.tj_words.specs.LawParts.Contents.{Contents, bits_in, drawn_in, hand_of, home_of, tag_in}

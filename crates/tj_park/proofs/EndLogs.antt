@@ -11,9 +11,9 @@ use Rattle.tj_cells.specs.CallLogs.{Grows, Makes, MakesClosed, Seat, phase_entry
 use Rattle.tj_cells.specs.FilledCells.{became}
 use Rattle.tj_words.specs.Words.Lists.{cell, numbers}
 use Rattle.tj_words.specs.declared.phase.Phase.TheVariants as phase
-use Rattle.tj_words.specs.declared.record.Fill.{Fill}
-use Rattle.tj_words.specs.declared.record.Finish.{Finish}
-use Rattle.tj_words.specs.declared.record.Rec.{Rec}
+use Rattle.tj_record.specs.declared.record.Fill.{Fill}
+use Rattle.tj_record.specs.declared.record.Finish.{Finish}
+use Rattle.tj_record.specs.declared.record.Rec.{Rec}
 use Rattle.tj_words.specs.declared.view.View.{View}
 use Rattle.tj_park.proofs.ParkLogs.{closed_grows}
 use Rattle.tj_park.proofs.WakeLogs.{wake_grows}

@@ -5,7 +5,7 @@ use Rattle.tj_park.proofs.Prelude.{MayFinish, MayLowerLive, MayWake, OrderedHasS
 use Rattle.tj_park.proofs.Prelude.{Option, Some, View, WritesBecome, [], ap, became, drop, ended_record, lowered_with}
 use Rattle.tj_park.proofs.Prelude.{rest, result_of, subst, sym, ℕ, ◌∙◌, ◌∷◌, ◌≡◌}
 use Rattle.tj_words.specs.Calls.LiveViews.{MayEnd, ended}
-use Rattle.tj_words.specs.declared.record.Finish.{Finish}
+use Rattle.tj_record.specs.declared.record.Finish.{Finish}
 use Rattle.tj_park.specs.Endings.{HasFinished}
 use Rattle.tj_park.specs.Inner.Closings.{ClosesResult}
 use Rattle.tj_park.specs.Wakes.{HasNotedNothing}

@@ -9,7 +9,7 @@ use Rattle.tj_park.proofs.Prelude.{in_either, in_left, in_right, inl, inr, insid
 use Rattle.tj_park.proofs.Prelude.{more_on, more_same, numbers, record_cells, refl, rest, subst, sym, tail_on}
 use Rattle.tj_park.proofs.Prelude.{to_task, with_tokens, without, without_due, ℕ, ⊎_elim, ◌+◌, ◌-◌, ◌<◌, ◌∙◌, ◌∷◌, ◌≡◌}
 use Rattle.tj_park.proofs.Prelude.{◌≢◌, ◌≤◌, ◌⊎◌}
-use Rattle.tj_words.specs.declared.record.Held.{Held}
+use Rattle.tj_record.specs.declared.record.Held.{Held}
 use Rattle.tj_words.specs.Calls.LiveViews.{MayEnd, MayLowerLive, Shelves, ended, lowered_with}
 use Rattle.tj_words.proofs.Waiters.ChainLists.{no_some}
 use Rattle.tj_park.specs.Endings.{HasFinished, result_of}

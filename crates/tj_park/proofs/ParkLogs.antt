@@ -5,7 +5,7 @@ use Rattle.tj_cells.specs.CallLogs.{Grows, Makes, MakesClosed, Seat, once_entry,
 use Rattle.tj_words.specs.Words.Values.{tag_word}
 use Rattle.tj_words.specs.declared.offsets.Once.TheVariants as once
 use Rattle.tj_words.specs.declared.head.Head.{Head}
-use Rattle.tj_words.specs.declared.record.Fill.{Fill}
+use Rattle.tj_record.specs.declared.record.Fill.{Fill}
 use Rattle.tj_words.specs.declared.head.Head.TheVariants as head
 use Rattle.tj_park.specs.ParkLogs.{MakesJoin, MakesPush, MakesPushes, adds, fails, finds_shut, head_load, next_store}
 use Rattle.tj_park.specs.ParkLogs.{push_entry}

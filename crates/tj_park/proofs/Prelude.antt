@@ -60,8 +60,8 @@ pub use Rattle.tj_words.specs.Words.Heads.{head_word}
 pub use Rattle.tj_words.specs.Words.Lists.{AreApart, cell, numbers, without}
 pub use Rattle.tj_words.specs.declared.head.Head.{Head}
 pub use Rattle.tj_words.specs.declared.phase.Phase.{Phase}
-pub use Rattle.tj_words.specs.declared.record.Finish.{Finish}
-pub use Rattle.tj_words.specs.declared.record.Rec.{Rec}
+pub use Rattle.tj_record.specs.declared.record.Finish.{Finish}
+pub use Rattle.tj_record.specs.declared.record.Rec.{Rec}
 pub use Rattle.tj_words.specs.declared.view.Custody.{Custody}
 pub use Rattle.tj_words.specs.declared.view.Filled.{Filled}
 pub use Rattle.tj_words.specs.declared.view.Rest.{Rest}

@@ -1,14 +1,14 @@
 -- The result of a task is set where the task ended well, and broken where it failed.
 use Rattle.tj_park.proofs.Prelude.{Bool, Close, Finish, FinishSays, IsIn, IsToBecome, MayFill, Option, Program, Some}
 use Rattle.tj_park.proofs.Prelude.{View, ap, became, inl, one_some, refl, result_of, subst, sym, ℕ, ◌∙◌, ◌≡◌, ◌≢◌}
-use Rattle.tj_words.specs.declared.record.Fill.{Fill}
-use Rattle.tj_words.specs.declared.record.Hurt.{Hurt}
+use Rattle.tj_record.specs.declared.record.Fill.{Fill}
+use Rattle.tj_record.specs.declared.record.Hurt.{Hurt}
 use Rattle.tj_words.specs.LawParts.NamedCells.{fill_cells, finish_cells}
 use Rattle.tj_cells.specs.FilledCells.{IsFilledWith, MayGiveUp, WillBecome, cells_named}
 use Rattle.tj_park.specs.Inner.Closings.{ClosesResult, MayCloseResult}
 use Rattle.tj_body.specs.declared.point.Entry.TheVariants as entry
-use Rattle.tj_words.specs.declared.record.Fill.TheVariants as fill
-use Rattle.tj_words.specs.declared.record.Finish.TheVariants as ends
+use Rattle.tj_record.specs.declared.record.Fill.TheVariants as fill
+use Rattle.tj_record.specs.declared.record.Finish.TheVariants as ends
 use Rattle.tj_park.proofs.OwnedCells.{owner_still}
 
 named_cells : (x : Fill) (c : ℕ) → IsIn c (cells_named x) → IsIn c (fill_cells x)

@@ -26,7 +26,7 @@ use Rattle.tj_body.specs.declared.point.Value.TheVariants as value
 use Rattle.tj_body.specs.declared.table.Row.TheVariants as row
 use Rattle.tj_body.specs.declared.ask.Answer.TheVariants as answer
 use Rattle.tj_words.specs.declared.offsets.Once.TheVariants as once
-use Rattle.tj_words.specs.declared.record.Fill.TheVariants as fill
+use Rattle.tj_record.specs.declared.record.Fill.TheVariants as fill
 use Rattle.tj_cells.specs.declared.seen.Seen.TheVariants as seen
 
 -- what the bodies of a table's tasks go by

@@ -20,8 +20,8 @@ use Rattle.tj_mean.proofs.Lists.NameOrder.{order}
 use Rattle.tj_mean.proofs.Outcomes.ToldOutcomes.{of_told, told_name}
 use Rattle.tj_words.specs.AtRest.RestMeaning.{AreRecordsOf, AreWordsOf, HaveMeaning, TellsHistory}
 use Rattle.tj_words.specs.LawParts.Telling.{TellsStage}
-use Rattle.tj_words.specs.declared.record.Finish.{Finish}
-use Rattle.tj_words.specs.declared.record.Rec.{Rec}
+use Rattle.tj_record.specs.declared.record.Finish.{Finish}
+use Rattle.tj_record.specs.declared.record.Rec.{Rec}
 use Rattle.tj_future.specs.RootWatches.{IsRootWatched, watched_of}
 use Rattle.tj_future.specs.declared.watched.Watched.{Watched}
 use Rattle.tj_program.specs.Inner.WatchTells.{WatchTells}
@@ -31,8 +31,8 @@ use Rattle.tj_body.specs.declared.ask.Answer.TheVariants as answer
 use Rattle.tj_body.specs.declared.point.Close.TheVariants as close
 use Rattle.tj_body.specs.declared.point.PointStage.TheVariants as stage
 use Rattle.tj_mean.specs.declared.outcome.Ending.TheVariants as ending
-use Rattle.tj_words.specs.declared.record.Fill.TheVariants as fill
-use Rattle.tj_words.specs.declared.record.Finish.TheVariants as finish
+use Rattle.tj_record.specs.declared.record.Fill.TheVariants as fill
+use Rattle.tj_record.specs.declared.record.Finish.TheVariants as finish
 
 -- ---- the root's line
 

@@ -12,7 +12,7 @@ use Rattle.tj_mean.specs.declared.outcome.Ending.{Ending}
 use Rattle.tj_mean.specs.declared.outcome.Ending.TheVariants as ending
 use Rattle.tj_mean.specs.declared.outcome.TaskLine.{TaskLine}
 use Rattle.tj_words.specs.Words.Lists.{cell}
-use Rattle.tj_words.specs.declared.record.Finish.TheVariants as finish
+use Rattle.tj_record.specs.declared.record.Finish.TheVariants as finish
 use Rattle.tj_report.specs.Inner.AwaitedCells.{awaited_by, awaited_in, wait_by}
 use Rattle.tj_report.specs.Inner.CellNames.{IsBelow}
 use Rattle.tj_report.specs.Inner.WalkedReports.{has_failed, has_trouble}

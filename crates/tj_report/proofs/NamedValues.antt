@@ -8,7 +8,7 @@ use Rattle.tj_words.proofs.Cells.CellNames.{cell_of_name}
 use Rattle.tj_words.proofs.Stores.SeatLists.{in_of_index}
 use Rattle.tj_words.specs.AtRest.RestMeaning.{AreWordsOf, tag_for}
 use Rattle.tj_words.specs.AtRest.RestValues.{AreValuesOfMeaning, IsValueOf, RefersBelow, value_shown}
-use Rattle.tj_words.specs.declared.record.Fill.{Fill}
+use Rattle.tj_record.specs.declared.record.Fill.{Fill}
 use Rattle.tj_report.specs.Inner.NamedCells.{BecameHere, IsCellNamed, became_by}
 use Rattle.tj_report.specs.Inner.ToldRecords.{IsFillBelow}
 use Rattle.tj_report.specs.NamedValues.{IsOfName, became_of}
@@ -18,7 +18,7 @@ use Rattle.tj_report.proofs.NamesBy.{names_are}
 use Rattle.tj_report.proofs.ToldRecords.{fill_says}
 use Rattle.tj_report.specs.declared.named_values.Became.TheVariants as became
 use Rattle.tj_body.specs.declared.point.Entry.TheVariants as entry
-use Rattle.tj_words.specs.declared.record.Fill.TheVariants as fill
+use Rattle.tj_record.specs.declared.record.Fill.TheVariants as fill
 
 -- a value that refers to one of the first cells names one of them
 pub below : (n : ℕ) (f : Fill) → RefersBelow n (Some f) → IsFillBelow n f

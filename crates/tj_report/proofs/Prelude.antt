@@ -38,8 +38,8 @@ pub use Rattle.tj_words.specs.AtRest.ClosedCells.{AreNamed, IsShown}
 pub use Rattle.tj_words.specs.AtRest.RestMeaning.{AreRecordsOf, AreWordsOf, TellsHistory, names}
 pub use Rattle.tj_words.specs.LawParts.TreeWords.{IsCell}
 pub use Rattle.tj_words.specs.declared.closed.RestCell.{RestCell}
-pub use Rattle.tj_words.specs.declared.record.Finish.{Finish}
-pub use Rattle.tj_words.specs.declared.record.Held.{Held}
-pub use Rattle.tj_words.specs.declared.record.Rec.{Rec}
+pub use Rattle.tj_record.specs.declared.record.Finish.{Finish}
+pub use Rattle.tj_record.specs.declared.record.Held.{Held}
+pub use Rattle.tj_record.specs.declared.record.Rec.{Rec}
 pub use lib.ListN.{get_elem?}
 pub use mathlib.Core.Option.{some, some-injective}

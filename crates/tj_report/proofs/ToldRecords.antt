@@ -13,8 +13,8 @@ use Rattle.tj_mean.specs.Outcomes.{shown_of, ending_of, stopped_of}
 use Rattle.tj_mean.specs.declared.outcome.Ending.{Ending}
 use Rattle.tj_words.specs.LawParts.Telling.{ArePairs, HasName, HeldSays, FillSays, HurtSays, FinishSays, Tells}
 use Rattle.tj_words.specs.LawParts.Telling.{TellsStage}
-use Rattle.tj_words.specs.declared.record.Fill.{Fill}
-use Rattle.tj_words.specs.declared.record.Hurt.{Hurt}
+use Rattle.tj_record.specs.declared.record.Fill.{Fill}
+use Rattle.tj_record.specs.declared.record.Hurt.{Hurt}
 use Rattle.tj_report.proofs.CellIndexes.{name_there}
 use Rattle.tj_report.specs.Inner.CellNames.{IsBelow, name_in}
 use Rattle.tj_report.specs.Inner.ToldRecords.{shown_by, cause_by, finished_by, IsFillBelow, IsHurtBelow, IsFinishBelow}
@@ -23,9 +23,9 @@ use Rattle.tj_base.specs.declared.value.Shown.TheVariants as shown
 use Rattle.tj_body.specs.declared.ask.Answer.TheVariants as answer
 use Rattle.tj_body.specs.declared.point.PointStage.TheVariants as stage
 use Rattle.tj_mean.specs.declared.outcome.Ending.TheVariants as ending
-use Rattle.tj_words.specs.declared.record.Fill.TheVariants as fill
-use Rattle.tj_words.specs.declared.record.Hurt.TheVariants as hurt
-use Rattle.tj_words.specs.declared.record.Finish.TheVariants as finish
+use Rattle.tj_record.specs.declared.record.Fill.TheVariants as fill
+use Rattle.tj_record.specs.declared.record.Hurt.TheVariants as hurt
+use Rattle.tj_record.specs.declared.record.Finish.TheVariants as finish
 
 module _ (born : List Reference) where
   abbrev many : ℕ

@@ -7,7 +7,7 @@ ghost use Rattle.tj_report.specs.Inner.CellNamesBy.{name_by};
 ghost use Rattle.tj_report.specs.Inner.WalkedReports.{AreToldBelow, IsWalkedBefore, IsWalkedTo};
 ghost use Rattle.tj_report.specs.RestReports.{IsReportOf};
 ghost use Rattle.tj_words.specs.AtRest.RestMeaning.{HaveMeaning};
-ghost use Rattle.tj_words.specs.declared.record.Rec.{Rec};
+ghost use Rattle.tj_record.specs.declared.record.Rec.{Rec};
 
 use crate::alarm_lines::add_alarms;
 use crate::closed_outcome::outcome_of;

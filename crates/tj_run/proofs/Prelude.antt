@@ -90,11 +90,11 @@ pub use Rattle.tj_words.specs.Steps.QuietSteps.{does_first}
 pub use Rattle.tj_words.specs.Steps.StepEvents.{MayAct}
 pub use Rattle.tj_words.specs.Steps.WalkSteps.{way_by}
 pub use Rattle.tj_words.specs.Words.Lists.{All, AreApart, cell, numbers, without}
-pub use Rattle.tj_words.specs.declared.record.Fill.{Fill}
-pub use Rattle.tj_words.specs.declared.record.Finish.{Finish}
-pub use Rattle.tj_words.specs.declared.record.Held.{Held}
-pub use Rattle.tj_words.specs.declared.record.Hurt.{Hurt}
-pub use Rattle.tj_words.specs.declared.record.Rec.{Rec}
+pub use Rattle.tj_record.specs.declared.record.Fill.{Fill}
+pub use Rattle.tj_record.specs.declared.record.Finish.{Finish}
+pub use Rattle.tj_record.specs.declared.record.Held.{Held}
+pub use Rattle.tj_record.specs.declared.record.Hurt.{Hurt}
+pub use Rattle.tj_record.specs.declared.record.Rec.{Rec}
 pub use Rattle.tj_words.specs.declared.table.Laid.{Laid}
 pub use Rattle.tj_words.specs.declared.view.Custody.{Custody}
 pub use Rattle.tj_words.specs.declared.view.Does.{Does}

@@ -3,7 +3,7 @@ ghost use Rattle.std.specs.Prelude.{◌≡◌, ◌≢◌, ◌↔◌, ◌<◌, []
 ghost use Rattle.std.specs.List.{AllByRecursion, remove};
 ghost use Rattle.tj_body.specs.Asks.{IsPaid};
 ghost use Rattle.tj_body.specs.NameLaws.{has_cell, without_cell, hand_cells};
-ghost use Rattle.tj_words.specs.declared.record.Held.{Held};
+ghost use Rattle.tj_record.specs.declared.record.Held.{Held};
 ghost use Rattle.tj_words.specs.Words.Lists.{numbers};
 ghost use Rattle.tj_run.specs.Inner.Pieces as pieces;
 

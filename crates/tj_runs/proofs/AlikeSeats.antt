@@ -5,7 +5,7 @@ use Rattle.tj_words.proofs.Prelude.{IsIn, IsTableStep, List, Name, Option, Progr
 use Rattle.tj_words.proofs.Prelude.{arith, bits_in, contents_of, drawn_in, get_elem?, inl, inr, last_moment}
 use Rattle.tj_words.proofs.Prelude.{reference_of, refl, some, some-injective, subst, sym, tag_in, tag_of, ℕ, ◌<◌, ◌↔◌}
 use Rattle.tj_words.proofs.Prelude.{◌∙◌, ◌∷◌, ◌≡◌, ◌≢◌, ◌≤◌}
-use Rattle.tj_words.specs.declared.record.Rec.{Rec}
+use Rattle.tj_record.specs.declared.record.Rec.{Rec}
 use Rattle.tj_words.specs.declared.table.Key.{Key}
 use Rattle.tj_words.specs.declared.view.Filled.{Filled}
 use Rattle.tj_words.specs.declared.view.View.{View}

@@ -15,7 +15,7 @@ use Rattle.tj_words.proofs.Prelude.{takes, takes_new, told_by, took_record, true
 use Rattle.tj_words.proofs.Prelude.{ℕ, ℕ_discrete, ⊎_elim, ◌-◌, ◌<◌, ◌∙◌, ◌∷◌, ◌≡◌, ◌≤◌, ◌⊎◌}
 use Rattle.tj_words.specs.declared.offsets.Once.{Once}
 use Rattle.tj_words.specs.declared.phase.Phase.{Phase}
-use Rattle.tj_words.specs.declared.record.Rec.{Rec}
+use Rattle.tj_record.specs.declared.record.Rec.{Rec}
 use Rattle.tj_words.specs.declared.table.Key.{Key}
 use Rattle.tj_words.specs.declared.view.View.{View}
 use Rattle.tj_words.proofs.Lemmas.{IsEventStep, IsQuietStep, Parts, ReadsOn, TableWord, begun_there, index, one_some}

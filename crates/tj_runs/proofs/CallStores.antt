@@ -4,7 +4,7 @@ use Rattle.tj_words.proofs.Prelude.{Bool, IsCallStep, IsTableStep, List, MayPutO
 use Rattle.tj_words.proofs.Prelude.{SeatMe, State, Step, StepCall, ap, count_at, dite, head_at, inl, inr, length}
 use Rattle.tj_words.proofs.Prelude.{owner_in, place_of, refl, set, shut_word, subst, suc, sym, told_by, word, ℕ}
 use Rattle.tj_words.proofs.Prelude.{ℕ_discrete, ⊎_elim, ◌<◌, ◌∙◌, ◌≡◌, ◌⊎◌}
-use Rattle.tj_words.specs.declared.record.Rec.{Rec}
+use Rattle.tj_record.specs.declared.record.Rec.{Rec}
 use Rattle.tj_words.specs.declared.table.Key.{Key}
 use Rattle.tj_words.specs.declared.view.View.{View}
 use Rattle.tj_words.proofs.Stores.TableWords.{TableWord, index, same_word_at}

@@ -5,7 +5,7 @@ use Rattle.tj_words.proofs.Prelude.{SlotsOf, Some, Sort, Step, StepCall, Swaps, 
 use Rattle.tj_words.proofs.Prelude.{false, lowered_with, mark, owner_in, phase_in, raised_with, refl, subst, sym}
 use Rattle.tj_words.proofs.Prelude.{told_by, true, ℕ, ℕ_discrete, ⊎_elim, ◌∙◌, ◌≡◌, ◌≢◌}
 use Rattle.tj_words.specs.declared.phase.Phase.{Phase}
-use Rattle.tj_words.specs.declared.record.Rec.{Rec}
+use Rattle.tj_record.specs.declared.record.Rec.{Rec}
 use Rattle.tj_words.specs.declared.view.Hand.{Hand}
 use Rattle.tj_words.specs.declared.view.View.{View}
 use Rattle.tj_runs.proofs.CallChanges.{ShowsSame, head_same, live_same, once_same, push_same, put_same}

@@ -4,7 +4,7 @@ use Rattle.tj_words.proofs.Prelude.{Bool, Contents, FindsCell, Law, List, MakesW
 use Rattle.tj_words.proofs.Prelude.{Reference, Rule, SeatMe, Sort, State, [], ap, arith, contents_of, count_at}
 use Rattle.tj_words.proofs.Prelude.{drawn_in, drawn_next, drew, homes_after, inl, new_hand, refl, suc, sym, takes_new}
 use Rattle.tj_words.proofs.Prelude.{word, ℕ, ◌++◌, ◌<◌, ◌∙◌, ◌∷◌, ◌≡◌}
-use Rattle.tj_words.specs.declared.record.Rec.{Rec}
+use Rattle.tj_record.specs.declared.record.Rec.{Rec}
 use Rattle.tj_words.specs.declared.table.Key.{Key}
 use Rattle.tj_words.specs.declared.view.Hand.{Hand}
 use Rattle.tj_words.specs.declared.view.View.{View}

@@ -7,9 +7,9 @@ use Rattle.tj_words.proofs.Prelude.{dite, drawn_in, get_elem?, hand_of, home_of,
 use Rattle.tj_words.proofs.Prelude.{tag_of, to_task, ℕ, ℕ_discrete, ◌<◌, ◌∙◌, ◌≡◌}
 use Rattle.tj_words.specs.declared.offsets.Once.TheVariants.{Tag}
 use Rattle.tj_words.specs.declared.phase.Phase.{Phase}
-use Rattle.tj_words.specs.declared.record.Fill.{Fill}
-use Rattle.tj_words.specs.declared.record.Finish.{Finish}
-use Rattle.tj_words.specs.declared.record.Rec.{Rec}
+use Rattle.tj_record.specs.declared.record.Fill.{Fill}
+use Rattle.tj_record.specs.declared.record.Finish.{Finish}
+use Rattle.tj_record.specs.declared.record.Rec.{Rec}
 use Rattle.tj_words.specs.declared.table.Key.{Key}
 use Rattle.tj_words.specs.declared.view.View.{View}
 use Rattle.tj_words.proofs.Lemmas.{AreApartByName, born_apart, inside}

@@ -5,7 +5,7 @@ use Rattle.tj_words.proofs.Prelude.{Program, Rule, SeatMe, SeatsHave, Some, Stat
 use Rattle.tj_words.proofs.Prelude.{cell, contents_of, drawn_in, held_in, hold, keeps, lowered, others_at, owner_read}
 use Rattle.tj_words.proofs.Prelude.{owner_seen, phase_of, refl, seats_have, set, suc, sym, total, turned, walk_with}
 use Rattle.tj_words.proofs.Prelude.{word, words_say, ℕ, ⊎_elim, ◌+◌, ◌-◌, ◌<◌, ◌∙◌, ◌≡◌}
-use Rattle.tj_words.specs.declared.record.Rec.{Rec}
+use Rattle.tj_record.specs.declared.record.Rec.{Rec}
 use Rattle.tj_words.specs.declared.table.Key.{Key}
 use Rattle.tj_words.specs.declared.view.Custody.{Custody}
 use Rattle.tj_words.specs.declared.view.Does.{Does}

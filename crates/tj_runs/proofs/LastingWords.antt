@@ -7,7 +7,7 @@ use Rattle.tj_words.proofs.Prelude.{hand_in, hand_of, head_in, inl, inr, last_mo
 use Rattle.tj_words.proofs.Prelude.{own_at, owner_in, place_of, refl, right_half, set, spent, subst, suc, sym, word}
 use Rattle.tj_words.proofs.Prelude.{ℕ, ⊎_elim, ◌∙◌, ◌∷◌, ◌≡◌, ◌≢◌, ◌⊎◌}
 use Rattle.tj_words.specs.declared.offsets.Once.{Once}
-use Rattle.tj_words.specs.declared.record.Rec.{Rec}
+use Rattle.tj_record.specs.declared.record.Rec.{Rec}
 use Rattle.tj_words.specs.declared.table.Key.{Key}
 use Rattle.tj_words.specs.declared.view.Hand.{Hand}
 use Rattle.tj_words.specs.declared.view.View.{View}

@@ -1,7 +1,7 @@
 -- What the laws of runs say of a table's own run.
 use Rattle.tj_words.proofs.Prelude.{AreMoments, Bool, List, Option, Program, Ruled, State, [], ap, contents_of}
 use Rattle.tj_words.proofs.Prelude.{get_elem?, last_moment, subst, sym, ⊎_elim, ◌∙◌, ◌∷◌, ◌≡◌}
-use Rattle.tj_words.specs.declared.record.Rec.{Rec}
+use Rattle.tj_record.specs.declared.record.Rec.{Rec}
 use Rattle.tj_words.specs.declared.table.Key.{Key}
 use Rattle.tj_words.specs.declared.view.View.{View}
 use Rattle.std.proofs.Common.{subst₂}

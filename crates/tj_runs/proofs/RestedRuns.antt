@@ -4,7 +4,7 @@ use Rattle.tj_words.proofs.Prelude.{AreMoments, Bool, IsCallStep, IsDue, IsSplit
 use Rattle.tj_words.proofs.Prelude.{Ruled, State, [], ap, arith, at_map, both, dite, get_elem?, inl, inr, last_moment}
 use Rattle.tj_words.proofs.Prelude.{left_half, place_of, refl, right_half, set, some, some-injective, spent, subst}
 use Rattle.tj_words.proofs.Prelude.{suc, sym, true, word, ℕ, ℕ_discrete, ⊎_elim, ◌||◌, ◌∙◌, ◌∷◌, ◌≡◌}
-use Rattle.tj_words.specs.declared.record.Rec.{Rec}
+use Rattle.tj_record.specs.declared.record.Rec.{Rec}
 use Rattle.tj_words.specs.declared.table.Key.{Key}
 use Rattle.tj_words.specs.declared.view.View.{View}
 use Rattle.tj_words.proofs.Lemmas.{of_seat_else, of_seat_here, of_seat_set}

@@ -6,10 +6,10 @@ use mathlib.Core.Option.{some}
 use lib.ListN.{get_elem?}
 use Rattle.tj_body.specs.Programs.{Program}
 use Rattle.tj_body.specs.declared.point.Reference.{Reference}
-use Rattle.tj_words.specs.declared.record.Fill.{Fill}
-use Rattle.tj_words.specs.declared.record.Finish.{Finish}
-use Rattle.tj_words.specs.declared.record.Finish.TheVariants as finish
-use Rattle.tj_words.specs.declared.record.Rec.{Rec}
+use Rattle.tj_record.specs.declared.record.Fill.{Fill}
+use Rattle.tj_record.specs.declared.record.Finish.{Finish}
+use Rattle.tj_record.specs.declared.record.Finish.TheVariants as finish
+use Rattle.tj_record.specs.declared.record.Rec.{Rec}
 use Rattle.tj_words.specs.declared.table.Key.{Key}
 use Rattle.tj_words.specs.declared.view.Filled.{Filled}
 use Rattle.tj_words.specs.declared.view.View.{View}

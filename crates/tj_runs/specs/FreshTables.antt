@@ -7,7 +7,7 @@ use Rattle.tj_log.specs.Laws.{HasView, IsFresh}
 use Rattle.tj_log.specs.Runs.{Kept}
 use Rattle.tj_log.specs.Shown.{SeatShown}
 use Rattle.tj_log.specs.declared.entry.Logged.{Logged}
-use Rattle.tj_words.specs.declared.record.Rec.{Rec}
+use Rattle.tj_record.specs.declared.record.Rec.{Rec}
 use Rattle.tj_words.specs.declared.table.Key.{Key}
 use Rattle.tj_words.specs.declared.view.View.{View}
 use Rattle.tj_words.specs.CallLaws.StepLogs.{table_terms}

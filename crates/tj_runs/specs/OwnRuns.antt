@@ -8,7 +8,7 @@ use Rattle.tj_body.specs.Programs.{Program}
 use Rattle.tj_events.specs.CoreState.{root_alone}
 use Rattle.tj_events.specs.Runs.{IsLegalRun, after_all}
 use Rattle.tj_events.specs.declared.event.Event.{Event}
-use Rattle.tj_words.specs.declared.record.Rec.{Rec}
+use Rattle.tj_record.specs.declared.record.Rec.{Rec}
 use Rattle.tj_words.specs.declared.table.Key.{Key}
 use Rattle.tj_words.specs.declared.view.View.{View}
 use Rattle.tj_words.specs.CallLaws.CallRuns.{AreAskedMoments, AreShown, joined, under}

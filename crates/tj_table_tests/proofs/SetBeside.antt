@@ -14,7 +14,7 @@ use Rattle.tj_table_tests.proofs.TwoTasks.{slots_now, tasks_now}
 use Rattle.tj_body.specs.declared.point.Entry.TheVariants as entry
 use Rattle.tj_events.specs.declared.walk.Way.TheVariants as way
 use Rattle.tj_words.specs.declared.offsets.Once.TheVariants as once
-use Rattle.tj_words.specs.declared.record.Fill.TheVariants as fill
+use Rattle.tj_record.specs.declared.record.Fill.TheVariants as fill
 use Rattle.tj_detect.specs.declared.blocking.Verdict.TheVariants as verdict
 use Rattle.tj_table_tests.specs.Beside.{WaitsBeside}
 

@@ -15,7 +15,7 @@ use Rattle.tj_park.proofs.WakeLoops.{Waking, none_left, waking_at_first}
 use Rattle.tj_table_tests.specs.EndsAlone.{EndsAlone}
 use Rattle.tj_run.proofs.Runs.EndConditions.{ended_left, ends_by, may_finish, none_other, slot_is}
 use Rattle.tj_words.specs.declared.head.Head.TheVariants as head
-use Rattle.tj_words.specs.declared.record.Finish.TheVariants as finish
+use Rattle.tj_record.specs.declared.record.Finish.TheVariants as finish
 use Rattle.tj_park.proofs.EndSteps as steps
 
 -- behind one element there is none

@@ -1,7 +1,7 @@
 -- A task that a test runs by hand, by a seat that has nothing else.
 use Rattle.std.specs.Prelude.{ℕ, ◌<◌, Bool}
 use Rattle.tj_body.specs.Programs.{Program}
-use Rattle.tj_words.specs.declared.record.Rec.{Rec}
+use Rattle.tj_record.specs.declared.record.Rec.{Rec}
 use Rattle.tj_words.specs.declared.table.Laid.{Laid}
 use Rattle.tj_words.specs.Law.{IsRooted}
 use Rattle.tj_words.specs.SeatViews.SeatSteps.{SeatMe}

@@ -3,9 +3,9 @@ use Rattle.std.specs.Prelude.{◌≡◌, Bool, length}
 use Rattle.tj_body.specs.NameLaws.{OrderedHasSame}
 use Rattle.tj_body.specs.Programs.{Program}
 use Rattle.tj_body.specs.RoundPoints.{WritesBecome}
-use Rattle.tj_words.specs.declared.record.Fill.{Fill}
-use Rattle.tj_words.specs.declared.record.Finish.TheVariants as finish
-use Rattle.tj_words.specs.declared.record.Rec.{Rec}
+use Rattle.tj_record.specs.declared.record.Fill.{Fill}
+use Rattle.tj_record.specs.declared.record.Finish.TheVariants as finish
+use Rattle.tj_record.specs.declared.record.Rec.{Rec}
 use Rattle.tj_words.specs.declared.table.Laid.{Laid}
 use Rattle.tj_words.specs.Law.{IsRooted}
 use Rattle.tj_words.specs.SeatViews.SeatSteps.{SeatMe}

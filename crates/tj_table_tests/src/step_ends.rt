@@ -2,7 +2,7 @@
 ghost use Rattle.std.specs.Prelude.{◌≡◌, [], ◌∷◌, length, Some};
 ghost use Rattle.atomic_table.specs.Table.{rest};
 ghost use Rattle.tj_body.specs.Programs.{program_of};
-ghost use Rattle.tj_words.specs.declared.record.Finish.TheVariants.{Done};
+ghost use Rattle.tj_record.specs.declared.record.Finish.TheVariants.{Done};
 ghost use Rattle.tj_words.specs.SeatViews.KnowsMore.{KnowsMore};
 ghost use Rattle.tj_words.specs.Calls.LiveViews.{HasSlot, MayEnd, ended};
 ghost use Rattle.tj_words.specs.SeatViews.SeatSteps.{IsCellOf, IsSeatOf};

@@ -16,7 +16,7 @@ use Rattle.tj_base.specs.declared.cell.Sort.TheVariants as sort
 use Rattle.tj_body.specs.declared.point.Entry.TheVariants as entry
 use Rattle.tj_body.specs.declared.point.Value.TheVariants as value
 use Rattle.tj_cells.specs.declared.seen.Seen.TheVariants as seen
-use Rattle.tj_words.specs.declared.record.Fill.TheVariants as fill
+use Rattle.tj_record.specs.declared.record.Fill.TheVariants as fill
 
 -- what a read of a cell's value found
 abbrev pub IsRead : ℕ → ℕ → Seen → View TableBody → View TableBody → Type 0

@@ -17,7 +17,7 @@ use Rattle.tj_words.specs.LawParts.TreeWords.{IsCell}
 use Rattle.tj_words.specs.SeatViews.SeatSteps.{IsSameSeat}
 use Rattle.tj_words.specs.SeatViews.SeenWords.{FindsWord, MayReadTree, seen_word}
 use Rattle.tj_words.specs.declared.offsets.Once.TheVariants as once
-use Rattle.tj_words.specs.declared.record.Rec.{Rec}
+use Rattle.tj_record.specs.declared.record.Rec.{Rec}
 use Rattle.tj_words.specs.declared.view.View.{View}
 use Rattle.tj_told.specs.Observers.{KnowsName, LooksOn, Observes}
 use Rattle.tj_words.specs.declared.table.Laid.{Laid}

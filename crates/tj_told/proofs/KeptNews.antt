@@ -13,7 +13,7 @@ use Rattle.tj_mean.specs.declared.outcome.Link.{Link}
 use Rattle.tj_words.specs.SeatViews.KnowsMore.{KnowsMore}
 use Rattle.tj_words.specs.SeatViews.SeatSteps.{SeatMe}
 use Rattle.tj_words.specs.SeatViews.Views.{both}
-use Rattle.tj_words.specs.declared.record.Rec.{Rec}
+use Rattle.tj_record.specs.declared.record.Rec.{Rec}
 use Rattle.tj_words.specs.declared.view.View.{View}
 use Rattle.tj_told.specs.Observers.{KnowsName, LooksOn}
 use Rattle.tj_told.specs.SeenNews.{AreSeen, AreSeenBy, HasSeenBroken, HasSeenValue, IsBrokenNow, IsSeenAs}

@@ -17,7 +17,7 @@ use Rattle.tj_words.specs.Words.Phases.{phase_in, phase_word, phase_by}
 use Rattle.tj_words.specs.declared.phase.Phase.TheVariants as phase
 use Rattle.tj_words.specs.declared.phase.Walk.{Walk}
 use Rattle.tj_words.specs.declared.phase.Walk.TheVariants as walk
-use Rattle.tj_words.specs.declared.record.Rec.{Rec}
+use Rattle.tj_record.specs.declared.record.Rec.{Rec}
 use Rattle.tj_words.specs.declared.view.View.{View}
 use Rattle.tj_words.specs.CallLaws.LoggedRuns.{HasRun}
 use Rattle.tj_log.specs.Runs.{log_of, took_of}

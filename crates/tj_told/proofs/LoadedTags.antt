@@ -10,7 +10,7 @@ use Rattle.tj_words.specs.SeatViews.SeatSteps.{IsSameSeat}
 use Rattle.tj_words.specs.SeatViews.SeenWords.{SeesOnce}
 use Rattle.tj_words.specs.SeatViews.Views.{loaded_once, saw_entry}
 use Rattle.tj_words.specs.declared.offsets.Once.TheVariants as once
-use Rattle.tj_words.specs.declared.record.Rec.{Rec}
+use Rattle.tj_record.specs.declared.record.Rec.{Rec}
 use Rattle.tj_words.specs.declared.view.View.{View}
 use Rattle.tj_told.specs.Observers.{KnowsCell, LooksOn}
 use Rattle.tj_told.specs.SeenNews.{IsBrokenNow}

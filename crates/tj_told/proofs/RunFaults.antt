@@ -11,7 +11,7 @@ use Rattle.tj_log.specs.Shown.{SeatShown}
 use Rattle.tj_syntax.specs.Trees.{Task}
 use Rattle.tj_words.specs.AtRest.EndedRuns.{EndsRun}
 use Rattle.tj_words.specs.declared.closed.RestCell.{RestCell}
-use Rattle.tj_words.specs.declared.record.Rec.{Rec}
+use Rattle.tj_record.specs.declared.record.Rec.{Rec}
 use Rattle.tj_words.specs.declared.view.View.{View}
 use Rattle.tj_told.specs.EndedNews.{IsEarly, IsEarlyOfScript}
 use Rattle.tj_told.specs.Hearing.{Hears, IsHeardUntil, IsStoppedBy}

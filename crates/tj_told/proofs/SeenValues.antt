@@ -30,7 +30,7 @@ use Rattle.tj_words.specs.SeatViews.SeenWords.{FindsNothing}
 use Rattle.tj_words.specs.SeatViews.KnownEntries.{HasSeen}
 use Rattle.tj_words.specs.SeatViews.Views.{loaded_once}
 use Rattle.tj_words.specs.declared.offsets.Once.TheVariants as once
-use Rattle.tj_words.specs.declared.record.Rec.{Rec}
+use Rattle.tj_record.specs.declared.record.Rec.{Rec}
 use Rattle.tj_words.specs.declared.view.View.{View}
 use Rattle.tj_told.specs.Observers.{KnowsCell, KnowsName, LooksOn}
 use Rattle.tj_told.specs.SeenNews.{HasSeenValue, IsNameOf, IsSeenAs}

@@ -5,7 +5,7 @@ use Rattle.tj_body.specs.History.{to_task}
 use Rattle.tj_body.specs.Points.{IsIn}
 use Rattle.tj_body.specs.declared.point.Reference.{Reference}
 use Rattle.tj_log.specs.Shown.{SeatShown}
-use Rattle.tj_words.specs.declared.record.Rec.{Rec}
+use Rattle.tj_record.specs.declared.record.Rec.{Rec}
 use Rattle.tj_words.specs.declared.table.Laid.{Laid}
 use Rattle.tj_words.specs.declared.view.View.{View}
 use Rattle.tj_words.specs.LawParts.TreeWords.{IsCell}

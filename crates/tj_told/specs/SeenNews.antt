@@ -10,7 +10,7 @@ use Rattle.tj_mean.specs.Outcomes.{shown_of}
 use Rattle.tj_log.specs.Shown.{SeatShown}
 use Rattle.tj_log.specs.declared.entry.Entry.{Entry}
 use Rattle.tj_mean.specs.declared.outcome.Link.{Link}
-use Rattle.tj_words.specs.declared.record.Rec.{Rec}
+use Rattle.tj_record.specs.declared.record.Rec.{Rec}
 use Rattle.tj_words.specs.declared.view.View.{View}
 use Rattle.tj_words.specs.LawParts.TreeWords.{AreCells}
 use Rattle.tj_words.specs.SeatViews.KnownEntries.{HasSeen}

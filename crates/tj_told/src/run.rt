@@ -18,7 +18,7 @@ ghost use Rattle.tj_told.specs.SeenNews.{AreSeen, AreSeenBy};
 ghost use Rattle.tj_told.specs.ToldNews.{AreAnswers, AreTold};
 ghost use Rattle.std.specs.Prelude.{Option, None, Some};
 ghost use Rattle.tj_log.specs.Shown.{SeatShown};
-ghost use Rattle.tj_words.specs.declared.record.Rec.{Rec};
+ghost use Rattle.tj_record.specs.declared.record.Rec.{Rec};
 ghost use Rattle.tj_words.specs.declared.view.View.{View};
 ghost use Rattle.tj_words.specs.AtRest.EndedRuns.{EndsRun};
 ghost use Rattle.tj_words.specs.Law.{IsRooted};

@@ -134,9 +134,9 @@ pub use Rattle.tj_words.specs.declared.offsets.Once.TheVariants.{Tag}
 pub use Rattle.tj_words.specs.declared.phase.Phase.{Phase}
 pub use Rattle.tj_words.specs.declared.phase.Phase.TheVariants.{Unborn, Waiting}
 pub use Rattle.tj_words.specs.declared.phase.Walk.{Walk}
-pub use Rattle.tj_words.specs.declared.record.Fill.{Fill}
-pub use Rattle.tj_words.specs.declared.record.Finish.{Finish}
-pub use Rattle.tj_words.specs.declared.record.Rec.{Rec}
+pub use Rattle.tj_record.specs.declared.record.Fill.{Fill}
+pub use Rattle.tj_record.specs.declared.record.Finish.{Finish}
+pub use Rattle.tj_record.specs.declared.record.Rec.{Rec}
 pub use Rattle.tj_words.specs.declared.table.Key.{Key}
 pub use Rattle.tj_words.specs.declared.view.About.{About}
 pub use Rattle.tj_words.specs.declared.view.Custody.{Custody}

@@ -8,7 +8,7 @@ use Rattle.tj_body.specs.declared.point.Reference.{Reference}
 use Rattle.tj_events.specs.CoreFacts.{CoreFacts}
 use Rattle.tj_tree.specs.Forks.{Forks}
 use Rattle.tj_words.specs.declared.phase.Phase.TheVariants.{Unborn}
-use Rattle.tj_words.specs.declared.record.Rec.{Rec}
+use Rattle.tj_record.specs.declared.record.Rec.{Rec}
 use Rattle.tj_words.specs.declared.table.Key.{Key}
 use Rattle.tj_words.specs.declared.view.About.{About}
 use Rattle.tj_words.specs.declared.view.Custody.{Custody}

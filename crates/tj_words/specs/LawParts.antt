@@ -15,5 +15,3 @@ pub mod Meaning
 pub mod RecordPhases
 pub mod Contents
 pub mod FirstState
-pub mod StartRecords
-pub mod TaskRecords

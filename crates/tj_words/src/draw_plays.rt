@@ -4,11 +4,11 @@ ghost use Rattle.tj_words.specs.Inner.CellTold.{of_its_cell};
 ghost use Rattle.tj_words.specs.Inner.IndexWords.{once_of};
 
 use crate::plays::Naming;
-use crate::record::Rec;
 use crate::view::View;
 use atomic_table::Play;
 use std::marker::PhantomData;
 use tj_body::Body;
+use tj_record::Rec;
 
 /// A draw.
 pub(crate) struct Draw<M> {

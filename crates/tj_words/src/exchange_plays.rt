@@ -1,8 +1,8 @@
 //! What an exchange of PHASE tells its caller.
-use crate::record::Rec;
 use crate::view::View;
 use atomic_table::Play;
 use tj_body::Body;
+use tj_record::Rec;
 
 /// An exchange of PHASE.
 pub(crate) struct PhaseExchange;

@@ -20,7 +20,6 @@ mod owners;
 mod phase;
 mod plays;
 mod put_phases;
-mod record;
 mod records;
 mod rest;
 mod seats;
@@ -36,11 +35,11 @@ pub use head::Head;
 pub use links::{link_cell, link_word};
 pub use offsets::Once;
 pub use phase::{Phase, Walk};
-pub use record::{Fill, Finish, Held, Hurt, Rec};
 pub use rest::RestWords;
 pub use stop::Stop;
 pub use table::{Key, Laid, Law, WSeat};
 pub use tj_events::Way;
+pub use tj_record::{Fill, Finish, Held, Hurt, Rec};
 pub use value::{value_of_words, value_words};
 pub use view::{
     About, Custody, Does, Due, Filled, Found, Hand, Note, Noted, Push, Rest, SeenWord, View,
@@ -48,6 +47,4 @@ pub use view::{
 
 mod links;
 mod parking;
-mod record_changes;
-mod record_reads;
 mod stop;

@@ -3,10 +3,10 @@ ghost use Rattle.tj_words.specs.Calls.LiveViews.{ended_store, live_add, live_sub
 ghost use Rattle.tj_words.specs.Calls.LiveViews.{stop_store};
 ghost use Rattle.tj_words.specs.Inner.CellTold.{of_its_cell};
 
-use crate::record::Rec;
 use crate::view::View;
 use atomic_table::Play;
 use tj_body::Body;
+use tj_record::Rec;
 
 /// The add to LIVE.
 pub(crate) struct LiveAdd;

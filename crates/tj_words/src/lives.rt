@@ -11,10 +11,10 @@ ghost use Rattle.tj_words.specs.SeatViews.Views.{stored_stop};
 
 use crate::live_plays::{LiveAdd, LiveSub, StopStore};
 use crate::offsets::{LIVE, STOP};
-use crate::record::Rec;
 use crate::table::{Laid, WSeat};
 use tj_base::CellId;
 use tj_body::Body;
+use tj_record::Rec;
 
 impl<B: Body> Laid<B> {
     /// Takes a token. The record of an unborn task that was put into its slot comes home.

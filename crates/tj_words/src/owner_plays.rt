@@ -3,10 +3,10 @@ ghost use Rattle.tj_words.specs.Calls.EntryViews.{tag_store};
 ghost use Rattle.tj_words.specs.Calls.OwnerViews.{owner_put};
 ghost use Rattle.tj_words.specs.Inner.CellTold.{of_its_cell};
 
-use crate::record::Rec;
 use crate::view::View;
 use atomic_table::Play;
 use tj_body::Body;
+use tj_record::Rec;
 
 /// A store of OWN.
 pub(crate) struct OwnerPut;

@@ -9,12 +9,12 @@ ghost use Rattle.tj_words.specs.SeatViews.SeatSteps.{IsCount, live_load, plain_l
 ghost use Rattle.tj_words.specs.Inner.CellTold.{of_its_cell};
 ghost use Rattle.tj_words.specs.declared.view.Noted.TheVariants as note;
 
-use crate::record::Rec;
 use crate::view::View;
 use atomic_table::Play;
 use std::marker::Brand;
 use tj_base::Sort;
 use tj_body::Body;
+use tj_record::Rec;
 
 /// What a step is about that its word doesn't say, for the proof alone: a step sees words and views,
 /// and no arguments.

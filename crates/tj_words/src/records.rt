@@ -3,9 +3,9 @@ ghost use Rattle.std.specs.Prelude.{◌≡◌, ◌<◌, get_or, None};
 ghost use Rattle.std.specs.Option.{option_map};
 ghost use Rattle.std.specs.Slots.{IsFull, slots_items, slots_len};
 
-use crate::record::Rec;
 use atomic_table::Closed;
 use std::alloc::Global;
+use tj_record::Rec;
 
 pub(crate) struct Records<B: Drop> {
     pub(crate) table: Closed<Option<Rec<B>>, Global>,

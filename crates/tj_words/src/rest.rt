@@ -10,7 +10,7 @@ ghost use Rattle.tj_words.specs.AtRest.RestMeaning.{HaveMeaning, AreCyclesOfMean
 ghost use Rattle.tj_words.specs.AtRest.RestValues.{AreValuesOfMeaning, RefersBelow, value_shown};
 ghost use Rattle.tj_words.specs.AtRest.ShownCells.{AreCellsOf, AreTableWords, cell_of};
 ghost use Rattle.tj_words.specs.declared.offsets.Once.TheVariants.{Tag, Bits};
-ghost use Rattle.tj_words.specs.declared.record.Rec.{Rec};
+ghost use Rattle.tj_record.specs.declared.record.Rec.{Rec};
 ghost use Rattle.tj_words.specs.Words.Offsets.{word, once_at};
 ghost use Rattle.tj_words.specs.Words.Values.{NamesCell};
 ghost use Rattle.std.specs.Slots.{IsFull, slots_items};
@@ -19,7 +19,6 @@ use crate::closed::{Closed, RestCell};
 use crate::offsets::{COUNT, Once, once_at, own_at, phase_at};
 use crate::owner::owner_of_word;
 use crate::phase::Phase;
-use crate::record::{Fill, Rec};
 use crate::records::Records;
 use crate::table::{Laid, WSeat};
 use crate::value::value_of_words;
@@ -30,6 +29,7 @@ use std::snapshot::Snapshot;
 use tj_base::CellId;
 use tj_body::{Body, meaning_is_last, rest_is_meaning};
 use tj_events::{alarms_are_on_cycles, cycles_are_watched};
+use tj_record::{Fill, Rec};
 
 /// Closed words and records, with the program and the number of cells that the table was made for.
 #[derive(Drop)]

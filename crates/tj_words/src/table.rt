@@ -12,7 +12,6 @@ use crate::links::link_word;
 use crate::offsets::{CELL_WORDS, COUNT, LIVE, Once, TABLE_WORDS, once_at, own_at, phase_at};
 use crate::owner::word_of_owner;
 use crate::phase::Phase;
-use crate::record::Rec;
 use crate::view::View;
 use atomic_table::Refused;
 use std::alloc::Global;
@@ -21,6 +20,7 @@ use tj_base::{CellId, Oom};
 use tj_body::{Body, points_in_rounds};
 use tj_events::start_meets_facts;
 use tj_log::{LogRule, LogSeat, LogTable};
+use tj_record::Rec;
 
 /// What a table is told when it is made: the number of cells, the root's body, and whether the rule
 /// is strict.

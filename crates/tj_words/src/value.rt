@@ -3,8 +3,8 @@
 ghost use Rattle.std.specs.Prelude.{◌≡◌, ◌<◌, ◌≢◌, ◌⊎◌, ◌^◌, None};
 ghost use Rattle.tj_words.specs.Words.Values as values;
 
-use crate::record::Fill;
 use tj_base::CellId;
+use tj_record::Fill;
 
 /// TAG and BITS of a cell that is filled, or broken: BITS of a broken one is 0.
 pub fn value_words(fill: Option<Fill>) -> (u64, u64)

@@ -2,10 +2,10 @@
 //! made; a clause reads an array as a list of any length. Cells stand here by their numbers.
 use crate::head::Head;
 use crate::offsets::Once;
-use crate::record::Rec;
 use tj_base::{Items, Sort};
 use tj_body::{Entry, Reference};
 use tj_events::{Walker, Way};
+use tj_record::Rec;
 
 /// What never changes: the root's body, the number of cells, and whether the rule is strict.
 #[derive(Drop)]

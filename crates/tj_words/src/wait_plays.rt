@@ -2,10 +2,10 @@
 ghost use Rattle.tj_words.specs.Calls.WaitViews.{wait_store};
 ghost use Rattle.tj_words.specs.Inner.CellTold.{of_its_cell};
 
-use crate::record::Rec;
 use crate::view::View;
 use atomic_table::Play;
 use tj_body::Body;
+use tj_record::Rec;
 
 /// A store of a wait into PHASE.
 pub(crate) struct WaitStore;

@@ -11,11 +11,11 @@ ghost use Rattle.tj_words.specs.Calls.WalkViews.{others_add, others_subtraction,
 ghost use Rattle.tj_words.specs.Calls.WalkViews.{walk_load};
 
 use crate::plays::Naming;
-use crate::record::Rec;
 use crate::view::View;
 use atomic_table::Play;
 use std::marker::PhantomData;
 use tj_body::Body;
+use tj_record::Rec;
 
 /// A load of COUNT by a walker.
 pub(crate) struct WalkerCount<M> {

@@ -5,7 +5,7 @@ use Rattle.tj_log.specs.Shown.{SeatShown}
 use Rattle.tj_tree.specs.declared.node.TaskNode.{TaskNode}
 use Rattle.tj_tree.specs.Inner.Moves.{IsKnown}
 use Rattle.tj_tree.specs.Walk.{GoesOn}
-use Rattle.tj_words.specs.declared.record.Rec.{Rec}
+use Rattle.tj_record.specs.declared.record.Rec.{Rec}
 use Rattle.tj_words.specs.declared.table.Laid.{Laid}
 use Rattle.tj_words.specs.declared.view.View.{View}
 use Rattle.tj_words.specs.SeatViews.TreeReads.{IsLater, MayLook, TreeShown}

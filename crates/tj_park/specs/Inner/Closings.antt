@@ -3,8 +3,8 @@ use Rattle.std.specs.Prelude.{◌≡◌, [], drop, Bool, ℕ, Option, Some, None
 use Rattle.tj_body.specs.Points.{IsIn}
 use Rattle.tj_body.specs.Programs.{Program}
 use Rattle.tj_body.specs.declared.point.Close.{Close}
-use Rattle.tj_words.specs.declared.record.Finish.{Finish}
-use Rattle.tj_words.specs.declared.record.Rec.{Rec}
+use Rattle.tj_record.specs.declared.record.Finish.{Finish}
+use Rattle.tj_record.specs.declared.record.Rec.{Rec}
 use Rattle.tj_words.specs.declared.view.About.{About}
 use Rattle.tj_words.specs.declared.view.View.{View}
 use Rattle.tj_words.specs.SeatViews.KnownEntries.{IsToBecome}

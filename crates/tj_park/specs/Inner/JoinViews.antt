@@ -5,7 +5,7 @@ use Rattle.tj_body.specs.Programs.{Program}
 use Rattle.tj_events.specs.declared.walk.Way.{Way}
 use Rattle.tj_words.specs.declared.head.Head.{Head}
 use Rattle.tj_words.specs.declared.head.Head.TheVariants as head
-use Rattle.tj_words.specs.declared.record.Rec.{Rec}
+use Rattle.tj_record.specs.declared.record.Rec.{Rec}
 use Rattle.tj_words.specs.declared.view.Found.{Found}
 use Rattle.tj_words.specs.declared.view.Push.{Push}
 use Rattle.tj_words.specs.declared.view.View.{View}

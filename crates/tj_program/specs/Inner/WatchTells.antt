@@ -5,8 +5,8 @@ use Rattle.tj_future.specs.declared.watched.Watched.{Watched}
 use Rattle.tj_future.specs.declared.watched.Watched.TheVariants as watched
 use Rattle.tj_mean.specs.declared.outcome.Ending.TheVariants as ending
 use Rattle.tj_mean.specs.declared.outcome.TaskLine.{TaskLine}
-use Rattle.tj_words.specs.declared.record.Fill.{Fill}
-use Rattle.tj_words.specs.declared.record.Fill.TheVariants as fill
+use Rattle.tj_record.specs.declared.record.Fill.{Fill}
+use Rattle.tj_record.specs.declared.record.Fill.TheVariants as fill
 use Rattle.tj_modes.specs.RootLines.{ending_line, root_line}
 
 -- the root's line has the number with which it ended; the name of a reference stands in that line alone

@@ -9,9 +9,9 @@ use Rattle.tj_words.specs.AtRest.ClosedCells.{IsShown}
 use Rattle.tj_words.specs.LawParts.Telling.{ArePairs}
 use Rattle.tj_words.specs.Words.Lists.{cell}
 use Rattle.tj_words.specs.declared.closed.RestCell.{RestCell}
-use Rattle.tj_words.specs.declared.record.Finish.{Finish}
-use Rattle.tj_words.specs.declared.record.Held.{Held}
-use Rattle.tj_words.specs.declared.record.Rec.{Rec}
+use Rattle.tj_record.specs.declared.record.Finish.{Finish}
+use Rattle.tj_record.specs.declared.record.Held.{Held}
+use Rattle.tj_record.specs.declared.record.Rec.{Rec}
 use Rattle.tj_report.specs.Inner.CellNamesBy.{name_by}
 use Rattle.tj_report.specs.Inner.ToldRecords.{IsRecordBelow}
 

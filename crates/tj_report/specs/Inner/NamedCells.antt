@@ -5,7 +5,7 @@ use Rattle.tj_base.specs.declared.cell.CellId.{CellId}
 use Rattle.tj_words.specs.AtRest.ClosedCells.{IsShown}
 use Rattle.tj_words.specs.AtRest.RestValues.{value_shown}
 use Rattle.tj_words.specs.declared.closed.RestCell.{RestCell}
-use Rattle.tj_words.specs.declared.record.Fill.{Fill}
+use Rattle.tj_record.specs.declared.record.Fill.{Fill}
 use Rattle.tj_report.specs.Inner.CellNamesBy.{name_by, names_by}
 use Rattle.tj_report.specs.Inner.ToldRecords.{shown_by}
 use Rattle.tj_report.specs.declared.named_values.Became.{Became}

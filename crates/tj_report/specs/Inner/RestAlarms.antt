@@ -6,7 +6,7 @@ use Rattle.tj_mean.specs.WaitIndexes.{AreNext, LeadsOn, link_at}
 use Rattle.tj_mean.specs.declared.outcome.Link.{Link}
 use Rattle.tj_mean.specs.declared.stopped.Stopped.{Stopped}
 use Rattle.tj_words.specs.declared.closed.RestCell.{RestCell}
-use Rattle.tj_words.specs.declared.record.Rec.{Rec}
+use Rattle.tj_record.specs.declared.record.Rec.{Rec}
 use Rattle.tj_report.specs.Inner.AwaitedCells.{AreNextBy, AreRanks, link_by}
 use Rattle.tj_mean.specs.ReportTexts.{line_feed, link_text}
 

@@ -13,14 +13,14 @@ use Rattle.tj_body.specs.declared.ask.Answer.TheVariants as answer
 use Rattle.tj_mean.specs.declared.outcome.Ending.{Ending}
 use Rattle.tj_mean.specs.declared.outcome.Ending.TheVariants as ending
 use Rattle.tj_mean.specs.declared.stopped.Stopped.{Stopped}
-use Rattle.tj_words.specs.declared.record.Fill.{Fill}
-use Rattle.tj_words.specs.declared.record.Fill.TheVariants as fill
-use Rattle.tj_words.specs.declared.record.Hurt.{Hurt}
-use Rattle.tj_words.specs.declared.record.Hurt.TheVariants as hurt
-use Rattle.tj_words.specs.declared.record.Finish.{Finish}
-use Rattle.tj_words.specs.declared.record.Finish.TheVariants as finish
-use Rattle.tj_words.specs.declared.record.Held.{Held}
-use Rattle.tj_words.specs.declared.record.Rec.{Rec}
+use Rattle.tj_record.specs.declared.record.Fill.{Fill}
+use Rattle.tj_record.specs.declared.record.Fill.TheVariants as fill
+use Rattle.tj_record.specs.declared.record.Hurt.{Hurt}
+use Rattle.tj_record.specs.declared.record.Hurt.TheVariants as hurt
+use Rattle.tj_record.specs.declared.record.Finish.{Finish}
+use Rattle.tj_record.specs.declared.record.Finish.TheVariants as finish
+use Rattle.tj_record.specs.declared.record.Held.{Held}
+use Rattle.tj_record.specs.declared.record.Rec.{Rec}
 use Rattle.tj_report.specs.Inner.CellNames.{IsBelow, name_in}
 
 module _ (ns : List Name) where

@@ -18,9 +18,9 @@ use Rattle.tj_mean.specs.declared.stopped.Stopped.{Stopped}
 use Rattle.tj_words.specs.AtRest.RestMeaning.{AreRecordsOf, AreWordsOf, TellsHistory}
 use Rattle.tj_words.specs.LawParts.Telling.{ArePairs}
 use Rattle.tj_words.specs.declared.closed.RestCell.{RestCell}
-use Rattle.tj_words.specs.declared.record.Finish.{Finish}
-use Rattle.tj_words.specs.declared.record.Finish.TheVariants as finish
-use Rattle.tj_words.specs.declared.record.Rec.{Rec}
+use Rattle.tj_record.specs.declared.record.Finish.{Finish}
+use Rattle.tj_record.specs.declared.record.Finish.TheVariants as finish
+use Rattle.tj_record.specs.declared.record.Rec.{Rec}
 use Rattle.tj_report.specs.Inner.CellNamesBy.{name_by}
 use Rattle.tj_mean.specs.ReportTexts.{task_lines}
 

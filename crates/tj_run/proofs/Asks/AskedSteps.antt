@@ -7,7 +7,7 @@ use Rattle.tj_base.specs.declared.cause.Cause.{Cause}
 use Rattle.tj_run.proofs.Asks.PointSteps.{after_rounds, before, owned_after, pairs_length, stands_next, still_open}
 use Rattle.tj_body.specs.declared.ask.Answer.TheVariants as answer
 use Rattle.tj_body.specs.declared.point.Close.TheVariants as close
-use Rattle.tj_words.specs.declared.record.Finish.TheVariants as finish
+use Rattle.tj_record.specs.declared.record.Finish.TheVariants as finish
 
 -- a seat that knows more knows of the ask too
 pub asked_on : {B : Type 0} (program : Program B) (v w : View B) → KnowsMore v w → (r : Rec B) (x : Ask B)

@@ -14,7 +14,7 @@ use Rattle.tj_body.specs.declared.ask.Ask.TheVariants as ask
 use Rattle.tj_body.specs.declared.point.Close.TheVariants as close
 use Rattle.tj_body.specs.declared.point.PointStage.TheVariants as stage
 use Rattle.tj_body.specs.declared.point.Value.TheVariants as value
-use Rattle.tj_words.specs.declared.record.Finish.TheVariants as finish
+use Rattle.tj_record.specs.declared.record.Finish.TheVariants as finish
 
 -- pairs have the same number, and each place has a pair
 pub pairs_at : {A C : Type 0} (F : A → C → Type 0) (xs : List A) (ys : List C) (a : A) (c : C) → ArePairs F xs ys

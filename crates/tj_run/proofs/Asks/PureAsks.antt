@@ -6,7 +6,7 @@ use Rattle.tj_run.proofs.Asks.PointSteps.{emitted, ended, failed}
 use Rattle.tj_run.proofs.Seats.RunningTasks.{gives_known, runs_too}
 use Rattle.tj_body.specs.declared.ask.Answer.TheVariants as answer
 use Rattle.tj_body.specs.declared.ask.Ask.TheVariants as ask
-use Rattle.tj_words.specs.declared.record.Finish.TheVariants as finish
+use Rattle.tj_record.specs.declared.record.Finish.TheVariants as finish
 use Rattle.tj_run.specs.declared.next.Next.TheVariants as next
 
 module _ {B : Type 0} (program : Bool → B → Program B) (laid : Laid B) (r : Rec B) (me : SeatMe B)

@@ -31,9 +31,9 @@ use Rattle.tj_body.specs.declared.ask.Answer.TheVariants as answer
 use Rattle.tj_body.specs.declared.ask.Ask.TheVariants as ask
 use Rattle.tj_body.specs.declared.point.Entry.TheVariants as entry
 use Rattle.tj_words.specs.declared.offsets.Once.TheVariants as once
-use Rattle.tj_words.specs.declared.record.Fill.TheVariants as fill
-use Rattle.tj_words.specs.declared.record.Finish.TheVariants as finish
-use Rattle.tj_words.specs.declared.record.Hurt.TheVariants as hurt
+use Rattle.tj_record.specs.declared.record.Fill.TheVariants as fill
+use Rattle.tj_record.specs.declared.record.Finish.TheVariants as finish
+use Rattle.tj_record.specs.declared.record.Hurt.TheVariants as hurt
 use Rattle.tj_run.specs.declared.next.Next.TheVariants as next
 
 -- the cell that a value names, as the words and as the records have it

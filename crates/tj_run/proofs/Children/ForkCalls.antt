@@ -17,7 +17,7 @@ use Rattle.tj_run.proofs.Children.ForkedChildren.{knows_parent}
 use Rattle.tj_run.proofs.Children.ForkedChildren.{may_birth, may_hand_each, may_release, promise_cells}
 use Rattle.tj_base.specs.declared.cell.Sort.TheVariants as sort
 use Rattle.tj_body.specs.declared.ask.Ask.TheVariants as ask
-use Rattle.tj_words.specs.declared.record.Finish.TheVariants as finish
+use Rattle.tj_record.specs.declared.record.Finish.TheVariants as finish
 use Rattle.tj_run.specs.declared.next.Next.TheVariants as next
 use Rattle.tj_run.specs.declared.why.Why.TheVariants as why
 

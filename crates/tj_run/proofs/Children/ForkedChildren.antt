@@ -36,8 +36,8 @@ use Rattle.tj_body.specs.declared.ask.Answer.TheVariants as answer
 use Rattle.tj_body.specs.declared.ask.Ask.TheVariants as ask
 use Rattle.tj_body.specs.declared.point.PointStage.TheVariants as stage
 use Rattle.tj_words.specs.declared.offsets.Once.TheVariants as once
-use Rattle.tj_words.specs.declared.record.Finish.TheVariants as finish
-use Rattle.tj_words.specs.declared.record.Hurt.TheVariants as hurt
+use Rattle.tj_record.specs.declared.record.Finish.TheVariants as finish
+use Rattle.tj_record.specs.declared.record.Hurt.TheVariants as hurt
 use Rattle.tj_run.specs.declared.next.Next.TheVariants as next
 
 module _ {B : Type 0} (program : Bool → B → Program B) (laid : Laid B) (r : Rec B) (b : B) (pass handed : List ℕ)

@@ -9,7 +9,7 @@ use Rattle.tj_words.specs.AtRest.RestMeaning.{HaveMeaning, AreCyclesOfMeaningAla
 use Rattle.tj_words.specs.AtRest.RestShown.{RestShown}
 use Rattle.tj_words.specs.AtRest.RestValues.{AreValuesOfMeaning}
 use Rattle.tj_words.specs.AtRest.ShownCells.{AreCellsOf}
-use Rattle.tj_words.specs.declared.record.Rec.{Rec}
+use Rattle.tj_record.specs.declared.record.Rec.{Rec}
 use Rattle.tj_words.specs.declared.view.View.{View}
 use Rattle.tj_run.specs.Runs.{EndsItsRun, RestsAt}
 use Rattle.tj_run.specs.declared.why.Left.TheVariants as left

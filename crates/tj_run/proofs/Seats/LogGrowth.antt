@@ -23,7 +23,7 @@ use Rattle.tj_words.specs.CallLaws.StepCalls as call
 use Rattle.tj_words.specs.CallLaws.StepLogs.{IsLogged}
 use Rattle.tj_words.specs.declared.head.Head.{Head}
 use Rattle.tj_words.specs.declared.offsets.Once.TheVariants as once
-use Rattle.tj_words.specs.declared.record.Fill.{Fill}
+use Rattle.tj_record.specs.declared.record.Fill.{Fill}
 use Rattle.tj_run.specs.Leaving.{EndsLog, last_entry}
 use Rattle.tj_run.specs.declared.why.Left.{Left}
 

@@ -13,8 +13,8 @@ use Rattle.tj_body.specs.declared.body.Body.{Ghosts}
 use Rattle.tj_log.proofs.table.LogTable.TheSendSync as table_sends
 use Rattle.std.proofs.option.Option.TheSendSync as option_sends
 use Rattle.std.specs.contracts.option.Option as option
-use Rattle.tj_words.proofs.record.Rec.TheSendSync as record_sends
-use Rattle.tj_words.specs.contracts.record.Rec as record_row
+use Rattle.tj_record.proofs.record.Rec.TheSendSync as record_sends
+use Rattle.tj_record.specs.contracts.record.Rec as record_row
 use Rattle.tj_words.specs.contracts.table.Key as key
 use Rattle.tj_words.specs.contracts.table.Laid as laid
 use Rattle.tj_words.specs.contracts.table.Law as law

@@ -24,8 +24,8 @@ use Rattle.tj_body.specs.declared.point.Close.TheVariants as close
 use Rattle.tj_body.specs.declared.point.Entry.TheVariants as entry
 use Rattle.tj_body.specs.declared.point.Value.TheVariants as value
 use Rattle.tj_cells.specs.declared.seen.Seen.TheVariants as seen
-use Rattle.tj_words.specs.declared.record.Finish.TheVariants as finish
-use Rattle.tj_words.specs.declared.record.Hurt.TheVariants as hurt
+use Rattle.tj_record.specs.declared.record.Finish.TheVariants as finish
+use Rattle.tj_record.specs.declared.record.Hurt.TheVariants as hurt
 use Rattle.tj_run.specs.declared.next.Next.TheVariants as next
 
 -- a seat by its view and its slots

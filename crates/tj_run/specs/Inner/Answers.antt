@@ -1,10 +1,10 @@
 -- What a value found makes of a record.
 use Rattle.std.specs.Prelude.{Bool, true, false, [], ◌∷◌, ◌++◌, length}
 use Rattle.tj_body.specs.declared.ask.Answer.TheVariants as answer
-use Rattle.tj_words.specs.declared.record.Finish.TheVariants as finish
-use Rattle.tj_words.specs.declared.record.Held.{Held}
-use Rattle.tj_words.specs.declared.record.Hurt.{Hurt}
-use Rattle.tj_words.specs.declared.record.Rec.{Rec}
+use Rattle.tj_record.specs.declared.record.Finish.TheVariants as finish
+use Rattle.tj_record.specs.declared.record.Held.{Held}
+use Rattle.tj_record.specs.declared.record.Hurt.{Hurt}
+use Rattle.tj_record.specs.declared.record.Rec.{Rec}
 use Rattle.tj_run.specs.declared.next.Next.{Next}
 use Rattle.tj_run.specs.declared.next.Next.TheVariants as next
 

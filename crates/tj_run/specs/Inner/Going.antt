@@ -3,7 +3,7 @@ use Rattle.std.specs.Prelude.{◌≡◌, ℕ, ◌<◌, Bool}
 use Rattle.tj_body.specs.Asks.{Ends}
 use Rattle.tj_body.specs.Programs.{Program}
 use Rattle.tj_body.specs.declared.ask.Ask.{Ask}
-use Rattle.tj_words.specs.declared.record.Rec.{Rec}
+use Rattle.tj_record.specs.declared.record.Rec.{Rec}
 use Rattle.tj_words.specs.declared.table.Laid.{Laid}
 use Rattle.tj_words.specs.declared.view.View.{View}
 use Rattle.tj_words.specs.SeatViews.KnowsMore.{IsTailOf, KnowsMore}

@@ -8,14 +8,14 @@ use Rattle.tj_base.specs.declared.value.Pay.TheVariants as pay
 use Rattle.tj_base.specs.declared.cause.Trouble.{Trouble}
 use Rattle.tj_base.specs.declared.cause.Trouble.TheVariants as trouble
 use Rattle.tj_body.specs.NameLaws.{Unhanded, no_promise, not_owned}
-use Rattle.tj_words.specs.declared.record.Fill.{Fill}
-use Rattle.tj_words.specs.declared.record.Fill.TheVariants as fill
-use Rattle.tj_words.specs.declared.record.Held.{Held}
-use Rattle.tj_words.specs.declared.record.Hurt.{Hurt}
-use Rattle.tj_words.specs.declared.record.Hurt.TheVariants as hurt
-use Rattle.tj_words.specs.declared.record.Rec.{Rec}
-use Rattle.tj_words.specs.LawParts.StartRecords.{own, start_record}
-pub use Rattle.tj_words.specs.LawParts.TaskRecords.{held_at}
+use Rattle.tj_record.specs.declared.record.Fill.{Fill}
+use Rattle.tj_record.specs.declared.record.Fill.TheVariants as fill
+use Rattle.tj_record.specs.declared.record.Held.{Held}
+use Rattle.tj_record.specs.declared.record.Hurt.{Hurt}
+use Rattle.tj_record.specs.declared.record.Hurt.TheVariants as hurt
+use Rattle.tj_record.specs.declared.record.Rec.{Rec}
+use Rattle.tj_record.specs.StartRecords.{own, start_record}
+pub use Rattle.tj_record.specs.TaskRecords.{held_at}
 use Rattle.tj_words.specs.Words.Lists.{cell, numbers}
 
 -- a cell as a value

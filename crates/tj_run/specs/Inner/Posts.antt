@@ -1,7 +1,7 @@
 -- A worker's post at a table, and what stays of it over a call, whatever that answers.
 use Rattle.std.specs.Prelude.{◌≡◌, ℕ, IfErr, Result}
 use Rattle.tj_words.specs.SeatViews.SeatSteps.{IsSeatOf}
-use Rattle.tj_words.specs.declared.record.Rec.{Rec}
+use Rattle.tj_record.specs.declared.record.Rec.{Rec}
 use Rattle.tj_words.specs.declared.table.Laid.{Laid}
 use Rattle.tj_run.specs.declared.post.Post.{Post}
 use Rattle.tj_run.specs.declared.why.Why.{Why}

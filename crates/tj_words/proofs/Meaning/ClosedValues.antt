@@ -15,7 +15,7 @@ use Rattle.tj_words.specs.AtRest.ShownCells.{AreTableWords}
 use Rattle.tj_words.specs.LawParts.Telling.{sort_tag}
 use Rattle.tj_words.specs.Words.Values.{NamesCell, fill_in}
 use Rattle.tj_words.specs.declared.offsets.Once.TheVariants.{Bits, Tag}
-use Rattle.tj_words.specs.declared.record.Fill.TheVariants as fill
+use Rattle.tj_record.specs.declared.record.Fill.TheVariants as fill
 use Rattle.tj_words.proofs.Lemmas.{inside}
 use Rattle.tj_words.proofs.SeatLoads.KnowLoads.{at_index}
 use Rattle.tj_words.proofs.Meaning.RestingCells as cells

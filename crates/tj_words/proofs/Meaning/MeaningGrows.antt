@@ -7,7 +7,7 @@ use Rattle.tj_words.proofs.Prelude.{Reference, Some, StandsIn, Tells, Value, [],
 use Rattle.tj_words.proofs.Prelude.{set, subst, sym, to_task, ℕ, ℕ_discrete, ⊎_elim, ◌<◌, ◌∙◌, ◌∷◌, ◌≡◌, ◌≢◌, ◌⊎◌}
 use Rattle.tj_words.specs.LawParts.Telling.{FinishSays, TellsStage, HurtSays}
 use Rattle.tj_base.specs.declared.cause.Cause.{Cause}
-use Rattle.tj_words.specs.declared.record.Hurt.{Hurt}
+use Rattle.tj_record.specs.declared.record.Hurt.{Hurt}
 use Rattle.tj_words.proofs.Stores.SeatLists.{each_set}
 
 -- lists agree by a relation that the one by which they agree implies

@@ -7,7 +7,7 @@ use Rattle.tj_body.specs.Programs.{Program}
 use Rattle.tj_log.specs.Runs.{befores_of, log_of, took_befores_of, took_of}
 use Rattle.tj_log.specs.Shown.{SeatShown}
 use Rattle.tj_words.specs.declared.closed.RestCell.{RestCell}
-use Rattle.tj_words.specs.declared.record.Rec.{Rec}
+use Rattle.tj_record.specs.declared.record.Rec.{Rec}
 use Rattle.tj_words.specs.declared.table.Key.{Key}
 use Rattle.tj_words.specs.declared.view.View.{View}
 use Rattle.tj_words.specs.AtRest.ShownCells.{AreCellsOf}

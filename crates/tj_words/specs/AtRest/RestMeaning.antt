@@ -25,7 +25,7 @@ use Rattle.tj_words.specs.declared.phase.Walk.{Walk}
 use Rattle.tj_words.specs.declared.phase.Walk.TheVariants as walk
 use Rattle.tj_words.specs.declared.phase.Phase.{Phase}
 use Rattle.tj_words.specs.declared.phase.Phase.TheVariants as phase
-use Rattle.tj_words.specs.declared.record.Rec.{Rec}
+use Rattle.tj_record.specs.declared.record.Rec.{Rec}
 use Rattle.tj_words.specs.AtRest.ClosedCells.{IsShown, Owns, HasAlarmed, AreNamed}
 use Rattle.tj_words.specs.LawParts.Telling.{tag_of, Tells, TellsStage}
 use Rattle.tj_words.specs.LawParts.TreeWords.{IsCell}

@@ -7,8 +7,8 @@ use Rattle.tj_body.specs.declared.point.Entry.TheVariants as entry
 use Rattle.tj_body.specs.declared.point.Reference.{Reference}
 use Rattle.tj_words.specs.declared.closed.RestCell.{RestCell}
 use Rattle.tj_words.specs.declared.offsets.Once.TheVariants.{Tag, Bits}
-use Rattle.tj_words.specs.declared.record.Fill.{Fill}
-use Rattle.tj_words.specs.declared.record.Fill.TheVariants as fill
+use Rattle.tj_record.specs.declared.record.Fill.{Fill}
+use Rattle.tj_record.specs.declared.record.Fill.TheVariants as fill
 use Rattle.tj_words.specs.AtRest.ClosedCells.{AreNamed}
 use Rattle.tj_words.specs.AtRest.ShownCells.{AreTableWords}
 use Rattle.tj_words.specs.LawParts.Telling.{FillSays}

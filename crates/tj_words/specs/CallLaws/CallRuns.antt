@@ -12,7 +12,7 @@ use Rattle.tj_events.specs.Runs.{AreAllowed, IsLegalRun, after_all}
 use Rattle.tj_events.specs.declared.event.Event.{Event}
 use Rattle.tj_words.specs.declared.head.Head.TheVariants.{Shut}
 use Rattle.tj_words.specs.declared.phase.Phase.{Phase}
-use Rattle.tj_words.specs.declared.record.Rec.{Rec}
+use Rattle.tj_record.specs.declared.record.Rec.{Rec}
 use Rattle.tj_words.specs.declared.table.Key.{Key}
 use Rattle.tj_words.specs.declared.view.View.{View}
 use Rattle.tj_words.specs.Law.{Law}

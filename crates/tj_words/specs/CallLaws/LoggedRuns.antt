@@ -11,7 +11,7 @@ use Rattle.tj_log.specs.Runs.{IsRun, Kept, Past, befores_of, begins, joins, log_
 use Rattle.tj_log.specs.Runs.{took_befores_of, took_of}
 use Rattle.tj_log.specs.declared.entry.Entry.{Entry}
 use Rattle.tj_log.specs.declared.entry.Logged.{Logged}
-use Rattle.tj_words.specs.declared.record.Rec.{Rec}
+use Rattle.tj_record.specs.declared.record.Rec.{Rec}
 use Rattle.tj_words.specs.declared.table.Key.{Key}
 use Rattle.tj_words.specs.declared.view.View.{View}
 use Rattle.tj_words.specs.CallLaws.CallRuns.{AreAskedMoments, IsAskedCall, IsAskedStep}

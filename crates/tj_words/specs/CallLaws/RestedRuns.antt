@@ -6,7 +6,7 @@ use lib.ListN.{get_elem?}
 use Rattle.atomic_table.specs.Table.{State, Step, Act}
 use Rattle.tj_body.specs.Programs.{Program}
 use Rattle.tj_words.specs.declared.offsets.Once.TheVariants.{Tag}
-use Rattle.tj_words.specs.declared.record.Rec.{Rec}
+use Rattle.tj_record.specs.declared.record.Rec.{Rec}
 use Rattle.tj_words.specs.declared.table.Key.{Key}
 use Rattle.tj_words.specs.declared.view.View.{View}
 use Rattle.tj_words.specs.CallLaws.CallSteps.{MakesWith}

@@ -5,7 +5,7 @@ use Rattle.tj_base.specs.declared.cell.Sort.{Sort}
 use Rattle.tj_body.specs.Programs.{Program}
 use Rattle.tj_events.specs.Events.{count_read, others_read, wait_found}
 use Rattle.tj_words.specs.declared.offsets.Once.{Once}
-use Rattle.tj_words.specs.declared.record.Rec.{Rec}
+use Rattle.tj_record.specs.declared.record.Rec.{Rec}
 use Rattle.tj_words.specs.declared.view.Noted.TheVariants as note
 use Rattle.tj_words.specs.Calls.ChainSteps.{next_store, push_exchange, shut_swap}
 use Rattle.tj_words.specs.Words.Codes.{IsPhaseWord}

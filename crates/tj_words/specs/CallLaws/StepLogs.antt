@@ -9,7 +9,7 @@ use Rattle.tj_log.specs.declared.entry.Did.{Did}
 use Rattle.tj_log.specs.declared.entry.Did.TheVariants.{Load, Store, Swap, Add, Sub, Exchange}
 use Rattle.tj_log.specs.declared.entry.Entry.{Entry}
 use Rattle.tj_words.specs.declared.offsets.Once.TheVariants.{Parent, Kid, Depth, Jump}
-use Rattle.tj_words.specs.declared.record.Rec.{Rec}
+use Rattle.tj_record.specs.declared.record.Rec.{Rec}
 use Rattle.tj_words.specs.declared.table.Key.{Key}
 use Rattle.tj_words.specs.declared.view.View.{View}
 use Rattle.tj_words.specs.CallLaws.StepCalls as call

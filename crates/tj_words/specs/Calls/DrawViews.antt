@@ -13,7 +13,7 @@ use Rattle.tj_body.specs.declared.point.Reference.{Reference}
 use Rattle.tj_tree.specs.Nodes.{node_of, jump_from, InEachTree}
 use Rattle.tj_words.specs.declared.offsets.Once.{Once}
 use Rattle.tj_words.specs.declared.offsets.Once.TheVariants as once
-use Rattle.tj_words.specs.declared.record.Rec.{Rec}
+use Rattle.tj_record.specs.declared.record.Rec.{Rec}
 use Rattle.tj_words.specs.declared.view.About.{About}
 use Rattle.tj_words.specs.declared.view.Does.TheVariants as does
 use Rattle.tj_words.specs.declared.view.Hand.{Hand}

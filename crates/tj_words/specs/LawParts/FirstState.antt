@@ -3,14 +3,14 @@ use Rattle.std.specs.Prelude.{ℕ, ◌-◌, Bool, List, [], ◌∷◌, set, repl
 use Rattle.tj_body.specs.History.{to_task}
 use Rattle.tj_words.specs.declared.offsets.Once.TheVariants as once
 use Rattle.tj_words.specs.declared.phase.Phase.TheVariants.{Ready}
-use Rattle.tj_words.specs.declared.record.Rec.{Rec}
+use Rattle.tj_record.specs.declared.record.Rec.{Rec}
 use Rattle.tj_words.specs.declared.view.View.{View}
 use Rattle.tj_words.specs.Words.Lists.{cell}
 use Rattle.tj_words.specs.Words.Offsets.{words_for, count_at, live_at, own_at, phase_at, once_at}
 use Rattle.tj_words.specs.Words.Owners.{owner_word}
 use Rattle.tj_words.specs.Words.Phases.{phase_word}
 use Rattle.tj_words.specs.LawParts.Lots.{all_lots}
-use Rattle.tj_words.specs.LawParts.StartRecords.{own, start_record}
+use Rattle.tj_record.specs.StartRecords.{own, start_record}
 use Rattle.tj_words.specs.SeatViews.Views.{spent}
 
 -- one cell is drawn, the root; it is ready, owns its result, and jumps to itself

@@ -7,9 +7,9 @@ use Rattle.tj_events.specs.declared.walk.Way.{Way}
 use Rattle.tj_words.specs.declared.phase.Walk.{Walk}
 use Rattle.tj_words.specs.declared.phase.Phase.{Phase}
 use Rattle.tj_words.specs.declared.phase.Phase.TheVariants as phase
-use Rattle.tj_words.specs.declared.record.Finish.{Finish}
-use Rattle.tj_words.specs.declared.record.Held.{Held}
-use Rattle.tj_words.specs.declared.record.Rec.{Rec}
+use Rattle.tj_record.specs.declared.record.Finish.{Finish}
+use Rattle.tj_record.specs.declared.record.Held.{Held}
+use Rattle.tj_record.specs.declared.record.Rec.{Rec}
 
 -- a task that waits owns its result
 abbrev pub WaitersOwn : (ℕ → Option ℕ) → (ℕ → Phase) → Type 0

@@ -2,7 +2,7 @@
 use Rattle.std.specs.Prelude.{◌≡◌, ◌≢◌, ℕ, ◌<◌, ◌^◌, min, Option}
 use Rattle.atomic_table.specs.Table.{Me, Step}
 use Rattle.tj_log.specs.Shown.{SeatShown}
-use Rattle.tj_words.specs.declared.record.Rec.{Rec}
+use Rattle.tj_record.specs.declared.record.Rec.{Rec}
 use Rattle.tj_words.specs.declared.table.Laid.{Laid}
 use Rattle.tj_words.specs.declared.view.View.{View}
 use Rattle.tj_words.specs.declared.view.Noted.{Noted}

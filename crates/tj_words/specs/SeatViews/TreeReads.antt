@@ -3,7 +3,7 @@ use Rattle.std.specs.Prelude.{◌≡◌, ◌⊎◌, ℕ, ◌+◌, List, ◌++◌
 use Rattle.tj_log.specs.Shown.{SeatShown}
 use Rattle.tj_body.specs.Points.{IsIn, Begins}
 use Rattle.tj_tree.specs.declared.node.Node.{Node}
-use Rattle.tj_words.specs.declared.record.Rec.{Rec}
+use Rattle.tj_record.specs.declared.record.Rec.{Rec}
 use Rattle.tj_words.specs.declared.table.Laid.{Laid}
 use Rattle.tj_words.specs.declared.view.SeenWord.{SeenWord}
 use Rattle.tj_words.specs.declared.view.View.{View}

@@ -1,8 +1,8 @@
 -- The words TAG and BITS of a cell, and what they stand for.
 use Rattle.std.specs.Prelude.{◌≡◌, ◌⊎◌, ℕ, cond, nat_eq, Option, Some, None}
 use Rattle.std.specs.Int.{cast_signed, w64}
-use Rattle.tj_words.specs.declared.record.Fill.{Fill}
-use Rattle.tj_words.specs.declared.record.Fill.TheVariants.{Num, Promise, Task}
+use Rattle.tj_record.specs.declared.record.Fill.{Fill}
+use Rattle.tj_record.specs.declared.record.Fill.TheVariants.{Num, Promise, Task}
 
 -- TAG of a cell that is filled, or broken; 0 is TAG of a cell of which nothing has become
 abbrev pub tag_word : Option Fill → ℕ

@@ -8,7 +8,7 @@ use Rattle.tj_body.specs.Programs.{program_of}
 use Rattle.tj_log.specs.Shown.{SeatShown}
 use Rattle.tj_words.specs.contracts.view.View as view
 use Rattle.tj_words.specs.SeatViews.Views.{IsIdle}
-use Rattle.tj_words.specs.declared.record.Rec.{Rec}
+use Rattle.tj_record.specs.declared.record.Rec.{Rec}
 use Rattle.tj_words.specs.declared.view.View.{View}
 use Rattle.tj_run.proofs.Seats.ThreadSends.{laid_sync, slot_send}
 use Rattle.tj_future.specs.Looks.{IsWatched}

@@ -1,5 +1,5 @@
 use Rattle.std.proofs.Common.{◌≡◌, map, take}
-use Rattle.tj_words.specs.declared.record.Held.{Held}
+use Rattle.tj_record.specs.declared.record.Held.{Held}
 use Rattle.tj_run.proofs.pieces.cells_of.Given as goal
 
 abbrev pub invariant-loop-h : goal.invariant-loop-h

@@ -1,7 +1,7 @@
 use Rattle.tj_run.proofs.Prelude.{IsAsked, ap, arith, fill_at, program_of, subst, sym, table_asks, table_awaits}
 use Rattle.tj_run.proofs.Prelude.{table_left, table_places, table_program, table_then, to_z-of_z, w64, ◌∙◌}
 use Rattle.tj_run.proofs.Asks.PureAsks.{end_goes}
-use Rattle.tj_words.specs.declared.record.Fill.TheVariants as fill
+use Rattle.tj_record.specs.declared.record.Fill.TheVariants as fill
 use Rattle.tj_table_tests.proofs.TestRuns.{may_rest}
 use Rattle.tj_table_tests.proofs.step_ends.the_root_ends_by_step_calls.Goals as goal
 

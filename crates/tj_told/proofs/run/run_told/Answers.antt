@@ -4,7 +4,7 @@ use Rattle.tj_embed.proofs.Outcomes.{outcome_named}
 use Rattle.tj_log.specs.Shown.{SeatShown}
 use Rattle.tj_run.specs.Runs.{RestsAt}
 use Rattle.tj_words.specs.AtRest.EndedRuns.{EndsRun}
-use Rattle.tj_words.specs.declared.record.Rec.{Rec}
+use Rattle.tj_record.specs.declared.record.Rec.{Rec}
 use Rattle.tj_words.specs.declared.view.View.{View}
 use Rattle.tj_told.specs.SeenNews.{AreSeenBy}
 use Rattle.tj_told.proofs.Hearings.{all_told, some_none}

@@ -1,8 +1,8 @@
 use Rattle.tj_run.proofs.Prelude.{Held, ap, program_of, sym, table_program, ◌∙◌}
 use Rattle.tj_run.proofs.Waiting.JoinTests.{get_fails, get_waits}
 use Rattle.tj_run.proofs.Seats.WorkersSteps.{goes_itself}
-use Rattle.tj_words.specs.declared.record.Finish.TheVariants as finish
-use Rattle.tj_words.specs.declared.record.Hurt.TheVariants as hurt
+use Rattle.tj_record.specs.declared.record.Finish.TheVariants as finish
+use Rattle.tj_record.specs.declared.record.Hurt.TheVariants as hurt
 use Rattle.tj_run.specs.declared.next.Next.TheVariants as next
 use Rattle.tj_run.proofs.post.Post.get.Goals as goal
 use Rattle.tj_run.proofs.Seats.LogGrowth.{still}

@@ -4,8 +4,8 @@ use Rattle.tj_run.proofs.Waiting.JoinTests.{runs_then, task_else}
 use Rattle.tj_run.proofs.Asks.PointSteps.{before}
 use Rattle.tj_run.proofs.Cells.ToldCells.{told_cell, told_held, told_knows, told_task}
 use Rattle.tj_run.proofs.Seats.WorkersSteps.{goes_itself}
-use Rattle.tj_words.specs.declared.record.Finish.TheVariants as finish
-use Rattle.tj_words.specs.declared.record.Hurt.TheVariants as hurt
+use Rattle.tj_record.specs.declared.record.Finish.TheVariants as finish
+use Rattle.tj_record.specs.declared.record.Hurt.TheVariants as hurt
 use Rattle.tj_run.specs.declared.next.Next.TheVariants as next
 use Rattle.tj_run.proofs.post.Post.join.Goals as goal
 use Rattle.tj_cells.proofs.CallLogs.{grows_on}

@@ -1,7 +1,7 @@
 use Rattle.tj_run.proofs.Prelude.{IsAsked, ap, fill_at, program_of, subst, sym, table_program, to_z-of_z, w64}
 use Rattle.tj_run.proofs.Prelude.{◌∙◌}
 use Rattle.tj_run.proofs.Asks.SetPromises.{IsToSet, sets_cell, sets_fills, sets_gives}
-use Rattle.tj_words.specs.declared.record.Fill.TheVariants as fill
+use Rattle.tj_record.specs.declared.record.Fill.TheVariants as fill
 use Rattle.tj_table_tests.proofs.OwnSets.{owns_second}
 use Rattle.tj_table_tests.proofs.by_hand.Rig.to_set.Given.{Over}
 use Rattle.tj_table_tests.proofs.by_hand.Rig.to_set.Goals as goal

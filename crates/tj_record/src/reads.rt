@@ -1,6 +1,6 @@
 //! What a record says of its task. None of these calls takes memory.
 ghost use Rattle.std.specs.Prelude.{◌≡◌, ◌≢◌, ◌<◌, ◌^◌, ◌∷◌, [], drop, length, slice_get};
-ghost use Rattle.tj_words.specs.LawParts.TaskRecords.{held_at, own};
+ghost use Rattle.tj_record.specs.TaskRecords.{held_at, own};
 
 use crate::record::{Finish, Held, Rec};
 use tj_base::{CellId, Sort};

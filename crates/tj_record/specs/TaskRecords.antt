@@ -3,9 +3,8 @@ use Rattle.std.specs.Prelude.{ℕ, ℤ, Bool, true, false, List, [], ◌∷◌, 
 use Rattle.tj_base.specs.declared.cell.CellId.{CellId}
 use Rattle.tj_base.specs.declared.cell.Sort.TheVariants as sort
 use Rattle.tj_body.specs.declared.ask.Answer.{Answer}
-use Rattle.tj_words.specs.declared.record.Finish.{Finish}
-use Rattle.tj_words.specs.declared.record.Held.{Held}
-use Rattle.tj_words.specs.Words.Lists.{cell}
+use Rattle.tj_record.specs.declared.record.Finish.{Finish}
+use Rattle.tj_record.specs.declared.record.Held.{Held}
 
 -- a task between two of its asks: the answer that its body is to be given, or, in a task that waits, the place of the
 -- cell; the cells that it holds, itself first, in the order of their places; those that it owns, its result first; how
@@ -29,7 +28,7 @@ own c = record { cell = c; sort = sort.Task }
 
 -- the held cell at the place
 abbrev pub held_at : List Held → ℕ → Held
-held_at held k = get_or held k (record { cell = cell 0; sort = sort.Task })
+held_at held k = get_or held k (record { cell = record { 0 = 0 }; sort = sort.Task })
 
 -- what task c owns that has these promises, by whether it has ended
 abbrev pub owned_by : CellId → List CellId → Bool → List CellId

@@ -2,9 +2,9 @@
 use Rattle.std.specs.Prelude.{false, List, [], None}
 use Rattle.tj_base.specs.declared.cell.CellId.{CellId}
 use Rattle.tj_body.specs.declared.ask.Answer.TheVariants as answer
-use Rattle.tj_words.specs.declared.record.Held.{Held}
-use Rattle.tj_words.specs.LawParts.TaskRecords.{TaskRecord}
-pub use Rattle.tj_words.specs.LawParts.TaskRecords.{own}
+use Rattle.tj_record.specs.declared.record.Held.{Held}
+use Rattle.tj_record.specs.TaskRecords.{TaskRecord}
+pub use Rattle.tj_record.specs.TaskRecords.{own}
 
 -- the record of a task at its start that holds and owns these
 abbrev pub start_record : {B : Type 0} → CellId → B → List Held → List CellId → TaskRecord B

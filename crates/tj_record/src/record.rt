@@ -1,7 +1,7 @@
 //! The record of a task between two of its asks, which goes from worker to worker as one pointer.
 ghost use Rattle.std.specs.Prelude.{◌≡◌, ◌∷◌, IfOk};
-ghost use Rattle.tj_words.specs.LawParts.StartRecords.{start_record};
-ghost use Rattle.tj_words.specs.LawParts.TaskRecords.{own};
+ghost use Rattle.tj_record.specs.StartRecords.{start_record};
+ghost use Rattle.tj_record.specs.TaskRecords.{own};
 
 use std::alloc::Global;
 use std::marker::Model;
@@ -74,7 +74,7 @@ pub struct Rec<B> {
 
 impl<B> Model for Rec<B> {
     ghost use Rattle.std.specs.Prelude.{◌∷◌};
-    ghost use Rattle.tj_words.specs.LawParts.TaskRecords.{TaskRecord, own, owned_by, owed_by};
+    ghost use Rattle.tj_record.specs.TaskRecords.{TaskRecord, own, owned_by, owed_by};
 
     ghost Value = { TaskRecord B };
 

@@ -3,7 +3,7 @@ ghost use Rattle.std.specs.Prelude.{◌≡◌, ◌≢◌, ◌+◌, ◌<◌, ◌^
 ghost use Rattle.std.specs.List.{remove};
 ghost use Rattle.tj_body.specs.Asks.{Fits};
 ghost use Rattle.tj_body.specs.declared.ask.Answer.TheVariants.{RefAt};
-ghost use Rattle.tj_words.specs.LawParts.TaskRecords.{ended_record};
+ghost use Rattle.tj_record.specs.TaskRecords.{ended_record};
 
 use crate::record::{Finish, Held, Rec};
 use std::alloc::Global;
