@@ -10,6 +10,7 @@ ghost use Rattle.tj_mean.specs.Outcomes.{is_marked};
 ghost use Rattle.tj_syntax.specs.View as shown;
 ghost use Rattle.tj_report.specs.ClosedOutcomes.{AreCyclesOfOutcomeAlarmed};
 ghost use Rattle.tj_report.specs.NamedValues.{IsOfName};
+ghost use Rattle.tj_run.specs.Runs.{AreEndOfRun};
 ghost use Rattle.tj_words.specs.AtRest.ClosedCells.{AreAtRest, AreCyclesAlarmed, AreAlarmsOnCycles};
 ghost use Rattle.tj_words.specs.AtRest.RestMeaning.{HaveWords};
 
@@ -140,6 +141,9 @@ impl<'s> ScriptRun<'s> {
         // cells, each once, what has become of each, and where each task's history stops.
         ensures meaning { HaveWords (script_program self.entry.strict self.entry.root)
             self.entry.limit result }
+        // They are the end of a run of a table for it from its first state.
+        ensures run { AreEndOfRun script_program self.entry.root self.entry.limit self.entry.strict
+            result }
         // And each cycle of the run's outcome has a member that has alarmed.
         ensures alarmed { (outcome : Outcome) → IsOutcomeOfRun self.entry outcome
             → AreCyclesOfOutcomeAlarmed result outcome }

@@ -5,3 +5,7 @@ pub mod ThreadSends
 mod TakenSeats
 mod LookAnswers
 mod LookSteps
+mod EndedLoads
+mod EndedCells
+mod ClosedAnswers
+mod EndedWatches

@@ -55,18 +55,18 @@ tag_some (Some (fill.Promise c)) e = omega arith
 tag_some (Some (fill.Task c)) e = omega arith
 
 -- what words say that a value was seen in is what the record says
-value_told : (tag bits : ℕ) (f : Fill) (o : Option Finish) → tag ≡ tag_word (Some f) → fill_in tag bits ≡ Some f
+pub value_told : (tag bits : ℕ) (f : Fill) (o : Option Finish) → tag ≡ tag_word (Some f) → fill_in tag bits ≡ Some f
     → ResultSays tag bits o → watched.Value f ≡ watched_of o
 value_told tag bits f None t b s = absurd (tag_some (Some f) (sym t ∙ s))
 value_told tag bits f (Some (finish.Done d)) t b s = ap watched.Value (some_value f d (sym b ∙ s.1))
 value_told tag bits f (Some (finish.Failed h)) t b s = absurd (some_none f (sym b ∙ s.1))
 
-broken_told : (tag bits : ℕ) (o : Option Finish) → tag ≡ 4 → ResultSays tag bits o → watched.Broken ≡ watched_of o
+pub broken_told : (tag bits : ℕ) (o : Option Finish) → tag ≡ 4 → ResultSays tag bits o → watched.Broken ≡ watched_of o
 broken_told tag bits None t s = absurd (omega arith)
 broken_told tag bits (Some (finish.Done d)) t s = absurd (tag_low d (sym s.0 ∙ t))
 broken_told tag bits (Some (finish.Failed h)) t s = refl
 
-rest_told : (tag bits : ℕ) (o : Option Finish) → tag ≡ 0 → ResultSays tag bits o → watched.Rested ≡ watched_of o
+pub rest_told : (tag bits : ℕ) (o : Option Finish) → tag ≡ 0 → ResultSays tag bits o → watched.Rested ≡ watched_of o
 rest_told tag bits None t s = refl
 rest_told tag bits (Some f) t s = absurd (tag_some _ (sym s.0 ∙ t))
 

@@ -1,13 +1,12 @@
 //! A run with a watch of its root beside the workers.
-ghost use Rattle.std.specs.Prelude.{◌≡◌, ◌⊎◌, ◌<◌, ◌≤◌, ◌*◌, List, [], All, false, IfErr, IfOk, length};
+ghost use Rattle.std.specs.Prelude.{◌≡◌, ◌≢◌, ◌⊎◌, ◌<◌, ◌≤◌, ◌*◌, [], All, false, IfErr, IfOk, IfSome, None, length};
 ghost use Rattle.std.specs.Thread.{IsSync};
 ghost use denote.Param.Send.{IsSend};
 ghost use Rattle.tj_base.specs.declared.cell.TheConstants.{MAX_CELLS};
 ghost use Rattle.tj_body.specs.Asks.{IsFresh};
+ghost use Rattle.tj_body.specs.Points.{IsIn};
 ghost use Rattle.tj_body.specs.Programs.{program_of};
 ghost use Rattle.tj_body.specs.Rounds.{IsFull};
-ghost use Rattle.tj_body.specs.declared.point.Reference.{Reference};
-ghost use Rattle.tj_words.specs.AtRest.ClosedCells.{AreNamed};
 ghost use Rattle.tj_words.specs.Law.{IsRooted};
 ghost use Rattle.tj_words.specs.LawParts.Lots.{least_lot};
 ghost use Rattle.tj_words.specs.SeatViews.SeatSteps.{IsSeatOf};
@@ -15,10 +14,12 @@ ghost use Rattle.tj_words.specs.SeatViews.Views.{IsIdle, both, left_half};
 ghost use Rattle.tj_run.specs.Workers.{IsFree, table_program};
 ghost use Rattle.tj_run.specs.Leaving.{Leaves};
 ghost use Rattle.tj_run.specs.Runs.{HasLots, RestsAt};
+ghost use Rattle.tj_future.specs.LookLogs.{MakesLooks};
 ghost use Rattle.tj_future.specs.Looks.{IsWatched};
-ghost use Rattle.tj_future.specs.RootWatches.{IsRootWatched, watched_of};
-ghost use Rattle.tj_future.specs.WatchedRuns.{HasWatched};
+ghost use Rattle.tj_future.specs.RootWatches.{IsRootWatched};
+ghost use Rattle.tj_future.specs.WatchedRuns.{EndsWatched, HasWatched};
 
+use crate::beginning::begun;
 use crate::looks::watch;
 use crate::watched::Watched;
 use std::alloc::Global;
@@ -29,11 +30,12 @@ use tj_body::Body;
 use tj_ports::Gate;
 use tj_ready::Pool;
 use tj_run::{Left, RunFault, Why, work_all};
-use tj_words::{Finish, Laid, RestWords, WSeat};
+use tj_words::{Laid, RestWords, WSeat};
 
 /// Runs a program with this root to its rest without the strict rule, as `run_all` does, with a watch
 /// of the root beside the workers. `Full` comes exactly where the meaning needs more cells. What is
-/// told of the root is what its record says. That watch and workers overlap is said by no clause.
+/// told of the root is what the watch was answered, and its record says it. That watch and workers
+/// overlap is said by no clause.
 pub fn run_watched<B: Body, P: Pool, G: Gate, R: Wait + Threads + Sync>(
     rt: &R,
     alloc: Global,
@@ -53,6 +55,11 @@ pub fn run_watched<B: Body, P: Pool, G: Gate, R: Wait + Threads + Sync>(
     // finished with one, Broken where it failed, Rested where it has no ending; so Stopped isn't
     // told.
     ensures watched { IfOk result (λ out. IsRootWatched out.1.records out.0) }
+    // It is what the watch was answered: the watch's seat began with a half of the first seat, made
+    // looks at the root, of which the last was answered so, as `look_at` says it, and no other step;
+    // and the seat that closed the table has taken it in, with its log, in the run whose end this is.
+    ensures run { IfOk result (λ out. EndsWatched (program_of B.places B.awaits B.left B.asks B.then)
+        cells false root 0 out.0 out.1.cells out.1.records) }
     // Then the meaning isn't full.
     ensures fits { IfOk result (λ _. ¬ IsFull
         (program_of B.places B.awaits B.left B.asks B.then false root) cells) }
@@ -60,15 +67,10 @@ pub fn run_watched<B: Body, P: Pool, G: Gate, R: Wait + Threads + Sync>(
     ensures full { IfErr result (λ fault. fault ≡ RunFault.Full → IsFull
         (program_of B.places B.awaits B.left B.asks B.then false root) cells) }
 {
-    let mut ends = P::make(rt, alloc, workers, cells)?;
-    let (laid, seat) = Laid::new(alloc, cells, root, false)?;
-    if let Some(first) = ends.as_mut_slice().first_mut() {
-        first.put(rt, alloc, CellId(0))?;
-    }
-    // What the watch was answered is what the root's record says, by `looks_stand`. No call shows it.
-    let (seat, left, _answer) = work_watched::<B, P, G, R>(rt, alloc, &laid, seat, ends, gate);
+    let (ends, laid, seat) = begun::<B, P, R>(rt, alloc, root, cells, workers)?;
+    let (seat, left, answer) = work_watched::<B, P, G, R>(rt, alloc, &laid, seat, ends, gate);
     match left {
-        Left::Rested => Ok(with_root(laid.rest(seat))),
+        Left::Rested => Ok((answer, laid.rest(seat))),
         Left::Stopped(why) => Err(fault_of(why)),
     }
 }
@@ -105,7 +107,7 @@ pub(crate) fn work_watched<B: Body, P: Pool, G: Gate, R: Wait + Threads + Sync>(
     ensures left { Leaves (program_of B.places B.awaits B.left B.asks B.then) result.1 seat.me.0
         result.0.me }
     ensures watched { HasWatched (program_of B.places B.awaits B.left B.asks B.then) laid.now.cells
-        0 result.2 result.1 seat.me.0 result.0.me }
+        0 result.2 result.1 seat.me.0 result.0 }
 {
     let (mine, theirs) = laid.split(seat);
     let watching = move || -> (Watched, WSeat<B>)
@@ -114,7 +116,7 @@ pub(crate) fn work_watched<B: Body, P: Pool, G: Gate, R: Wait + Threads + Sync>(
         ensures { (result.1.table_id ≡ theirs.table_id) × IsIdle result.1.me.0
             × (result.1.me.1 ≡ []) × (result.1.me.0.lot ≡ theirs.me.0.lot) × IsWatched
             (program_of B.places B.awaits B.left B.asks B.then) laid.entry.now.cells 0 result.0
-            theirs.me.0 result.1.me.0 }
+            theirs.me.0 result.1.me.0 × MakesLooks 0 result.0 theirs result.1 }
     { watch(rt, laid, theirs, CellId(0)) };
     let working = move || -> (WSeat<B>, Left)
         requires { IsSync R.row × IsSync G.row × IsSend B.row × IsSend P.row
@@ -147,37 +149,28 @@ pub(crate) fn take_in<B: Body>(
     ensures table { result.0.table_id ≡ laid.now.table.shared.table_id }
     ensures rested { result.1 ≡ Left.Rested → (left ≡ Left.Rested)
         × (result.0.me ≡ (both worked.me.0 watched.me.0, [])) × IsIdle result.0.me.0 }
+    ensures runs_on { result.1 ≡ Left.Rested → (why : Why) → answer ≢ Watched.Stopped why }
+    ensures took { result.1 ≡ Left.Rested → IsIn watched.log result.0.took }
     ensures stopped { (why : Why) → result.1 ≡ Left.Stopped why
         → ((result.0 ≡ worked) × (left ≡ Left.Stopped why))
         ⊎ ((result.0 ≡ watched) × (answer ≡ Watched.Stopped why)) }
 {
-    match (left, answer) {
+    match (left, stopped_by(answer)) {
         (Left::Stopped(why), _) => (worked, Left::Stopped(why)),
-        (Left::Rested, Watched::Stopped(why)) => (watched, Left::Stopped(why)),
-        (Left::Rested, _) => (laid.merge(worked, watched), Left::Rested),
+        (Left::Rested, Some(why)) => (watched, Left::Stopped(why)),
+        (Left::Rested, None) => (laid.merge(worked, watched), Left::Rested),
     }
 }
 
-// What the root's record says of the root.
-fn with_root<B: Body>(rest: RestWords<B>) -> (Watched, RestWords<B>)
-    requires named { (born : List Reference) × AreNamed rest.cells born }
-    ensures rest { result.1 ≡ rest }
-    ensures watched { IsRootWatched rest.records result.0 }
+// Why the run was stopped, where a watch was answered so.
+fn stopped_by(answer: Watched) -> Option<Why>
+    ensures some { IfSome result (λ why. answer ≡ Watched.Stopped why) }
+    ensures none { result ≡ None → (why : Why) → answer ≢ Watched.Stopped why }
 {
-    let watched = match rest.rec(CellId(0)) {
-        Some(rec) => root_told(rec.finish()),
-        None => unreachable!(),
-    };
-    (watched, rest)
-}
-
-// What is told of a task's result that ended like this, or waits.
-fn root_told(finish: Option<Finish>) -> Watched
-    ensures { result ≡ watched_of finish }
-{
-    match finish {
-        Some(Finish::Done(fill)) => Watched::Value(fill),
-        Some(Finish::Failed(_)) => Watched::Broken,
-        None => Watched::Rested,
+    match answer {
+        Watched::Value(_) => None,
+        Watched::Broken => None,
+        Watched::Rested => None,
+        Watched::Stopped(why) => Some(why),
     }
 }

@@ -14,9 +14,11 @@ ghost use Rattle.tj_run.specs.Workers.{IsFree, table_program};
 ghost use Rattle.tj_run.specs.Leaving.{Leaves};
 ghost use Rattle.tj_run.specs.Runs.{HasLots, RestsAt};
 ghost use Rattle.tj_future.specs.CellWatches.{IsCellWatched};
+ghost use Rattle.tj_future.specs.LookLogs.{MakesLooks};
 ghost use Rattle.tj_future.specs.Looks.{IsWatched};
 ghost use Rattle.tj_future.specs.WatchedRuns.{EndsWatched, HasWatched};
 
+use crate::beginning::begun;
 use crate::beside::{fault_of, take_in};
 use crate::polls::{CellWait, Polled};
 use crate::watched::Watched;
@@ -26,7 +28,7 @@ use std::random::RandomSource;
 use std::sync::Wait;
 use std::thread::{Threads, join};
 use tj_base::{CellId, Oom};
-use tj_body::Body;
+use tj_body::{Body, meaning_is_last, rest_is_meaning};
 use tj_ports::Gate;
 use tj_ready::Pool;
 use tj_run::{Left, RunFault, work_all};
@@ -34,8 +36,9 @@ use tj_words::{Laid, RestWords, WSeat};
 
 /// Runs a program with this root to its rest without the strict rule, as `run_all` does, with a future
 /// for cell `p`, which an executor polls in a thread of its own beside the workers, or after them where
-/// no thread can be made. What is told of the cell is what the closed table says of it. That the call
-/// returns, and that the future and the workers overlap, is said by no clause.
+/// no thread can be made. What is told of the cell is what the future was ready with, and the closed
+/// table says it. That the call returns, and that the future and the workers overlap, is said by no
+/// clause.
 pub fn run_polled<B: Polled, P: Pool, G: Gate, R>(
     rt: &R,
     alloc: Global,
@@ -58,11 +61,12 @@ where
     // Broken where it has none and its TAG isn't 0, Rested where its TAG is 0 or it wasn't drawn; so
     // Stopped isn't told.
     ensures answer { IfOk result (λ out. IsCellWatched out.1.cells out.1.words p.0 out.0) }
-    // The seat that closed the table has taken in the future's, which began with a half of the first
-    // seat, and whose last look at the cell was answered, as `look_at` says it, in the run whose end
+    // It is what the future was ready with: the future's seat began with a half of the first seat,
+    // made looks at the cell, of which the last was answered so, as `look_at` says it, and no other
+    // step; and the seat that closed the table has taken it in, with its log, in the run whose end
     // this is.
     ensures watched { IfOk result (λ out. EndsWatched (program_of B.places B.awaits B.left B.asks
-        B.then) cells false root p.0 out.1.cells out.1.records) }
+        B.then) cells false root p.0 out.0 out.1.cells out.1.records) }
     // Then the meaning isn't full.
     ensures fits { IfOk result (λ _. ¬ IsFull
         (program_of B.places B.awaits B.left B.asks B.then false root) cells) }
@@ -70,43 +74,14 @@ where
     ensures full { IfErr result (λ fault. fault ≡ RunFault.Full → IsFull
         (program_of B.places B.awaits B.left B.asks B.then false root) cells) }
 {
-    let mut ends = P::make(rt, alloc, workers, cells)?;
-    let (laid, seat) = Laid::new(alloc, cells, root, false)?;
-    if let Some(first) = ends.as_mut_slice().first_mut() {
-        first.put(rt, alloc, CellId(0))?;
-    }
-    // What the future was ready with isn't told: no call shows that the closed table says it.
-    let (seat, left, _answer) = work_polled::<B, P, G, R>(rt, alloc, &laid, seat, ends, gate, p)?;
+    rest_is_meaning::<B>();
+    meaning_is_last::<B>();
+    let (ends, laid, seat) = begun::<B, P, R>(rt, alloc, root, cells, workers)?;
+    let (seat, left, answer) = work_polled::<B, P, G, R>(rt, alloc, &laid, seat, ends, gate, p)?;
     match left {
-        Left::Rested => Ok(with_cell(laid.rest(seat), p)),
+        Left::Rested => Ok((answer, laid.rest(seat))),
         Left::Stopped(why) => Err(fault_of(why)),
     }
-}
-
-// What the closed table says of cell p.
-fn with_cell<B: Body>(rest: RestWords<B>, p: CellId) -> (Watched, RestWords<B>)
-    ensures rest { result.1 ≡ rest }
-    ensures answer { IsCellWatched rest.cells rest.words p.0 result.0 }
-{
-    let told = cell_told(&rest, p);
-    (told, rest)
-}
-
-// What the closed table tells of cell p, by its value and its TAG.
-fn cell_told<B: Body>(rest: &RestWords<B>, p: CellId) -> Watched
-    ensures { IsCellWatched rest.now.cells rest.now.words p.0 result }
-{
-    if p.0 >= rest.drawn() {
-        return Watched::Rested;
-    }
-    let cell = rest.cell(p);
-    if let Some(fill) = rest.value(p) {
-        return Watched::Value(fill);
-    }
-    if cell.tag == 0 {
-        return Watched::Rested;
-    }
-    Watched::Broken
 }
 
 // The workers, and an executor with a wait for cell `p` beside them, whose seat is taken in again.
@@ -134,7 +109,7 @@ where
     ensures left { IfOk result (λ out. Leaves (program_of B.places B.awaits B.left B.asks B.then)
         out.1 seat.me.0 out.0.me) }
     ensures watched { IfOk result (λ out. HasWatched (program_of B.places B.awaits B.left B.asks
-        B.then) laid.now.cells p.0 out.2 out.1 seat.me.0 out.0.me) }
+        B.then) laid.now.cells p.0 out.2 out.1 seat.me.0 out.0) }
 {
     let (mine, theirs) = laid.split(seat);
     let waiting = move || -> Option<(Watched, WSeat<B>)>
@@ -143,7 +118,8 @@ where
         ensures { IfSome result (λ given. (given.1.table_id ≡ theirs.table_id)
             × IsIdle given.1.me.0 × (given.1.me.1 ≡ []) × (given.1.me.0.lot ≡ theirs.me.0.lot)
             × IsWatched (program_of B.places B.awaits B.left B.asks B.then)
-            laid.entry.now.cells p.0 given.0 theirs.me.0 given.1.me.0) }
+            laid.entry.now.cells p.0 given.0 theirs.me.0 given.1.me.0
+            × MakesLooks p.0 given.0 theirs given.1) }
     {
         match block_on(rt, CellWait::new(laid, theirs, p)) {
             Ok(given) => Some(given),

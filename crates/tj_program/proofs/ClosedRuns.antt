@@ -51,6 +51,7 @@ module _ {B : Type 0} (program : Bool → B → Program B) where
         status_is = s;
         text_is = t;
         words = (h.meaning.0, h.meaning.1);
+        run = (program, r.strict, r.root, refl, (h.run.0, r.records, h.run.1));
         rest = h.rest;
         alarmed = alarmed;
         cycles = h.cycles;

@@ -1,17 +1,19 @@
 -- Runs over workers: the closed words of the table that come with a text and a status, and that they are of one run.
-use Rattle.std.specs.Prelude.{ℕ, ◌≡◌, true, List, Option, String}
+use Rattle.std.specs.Prelude.{ℕ, ◌≡◌, Bool, true, List, Option, String}
 use Rattle.std.specs.Io.KnownBytes.{Appends}
 use Rattle.std.specs.declared.alloc.Global.{Global}
+use Rattle.tj_body.specs.Programs.{Program}
 use Rattle.tj_mean.specs.declared.outcome.Outcome.{Outcome}
 use Rattle.tj_mean.specs.Outcomes.{is_marked}
 use Rattle.tj_report.specs.ClosedOutcomes.{AreCyclesOfOutcomeAlarmed}
+use Rattle.tj_run.specs.Runs.{AreEndOfRun}
 use Rattle.tj_words.specs.AtRest.ClosedCells.{AreAtRest, AreCyclesAlarmed, AreAlarmsOnCycles}
 use Rattle.tj_words.specs.AtRest.RestMeaning.{HaveWords}
 use Rattle.tj_words.specs.declared.closed.RestCell.{RestCell}
 use Rattle.tj_modes.specs.CommandLine.{IsCommand}
 use Rattle.tj_modes.specs.Output.{IsStart, has_workers}
 use Rattle.tj_modes.specs.RelayRuns.{relay_start}
-use Rattle.tj_modes.specs.Runs.{Start, StartOf, NeedsMore, IsOutcomeOf, status_of, text_of}
+use Rattle.tj_modes.specs.Runs.{Start, StartOf, NeedsMore, IsOutcomeOf, started, status_of, text_of}
 use Rattle.tj_modes.specs.declared.command.Command.{Command}
 use Rattle.tj_modes.specs.declared.command.Command.TheVariants.{Gen, Relay, Watch}
 use Rattle.tj_modes.specs.declared.script_run.Told.{Told}
@@ -47,6 +49,10 @@ module _ {B : Type 0} where
     pub status_is : status ≡ status_of (is_marked outcome)
     pub text_is : text ≡ text_of told outcome
     pub words : HaveWords start.program start.cells closed
+    -- and they are the end of a run of a table for this start, from its first state
+    pub run : (program : Bool → B → Program B) × (strict : Bool) × (root : B)
+        × (start ≡ started program strict start.cells root)
+        × AreEndOfRun program root start.cells strict closed
     pub rest : AreAtRest closed
     pub alarmed : AreCyclesOfOutcomeAlarmed closed outcome
     pub cycles : AreCyclesAlarmed closed

@@ -14,7 +14,7 @@ ghost use Rattle.tj_words.specs.SeatViews.SeatSteps.{IsSeatOf};
 ghost use Rattle.tj_words.specs.SeatViews.Views.{IsIdle, both};
 ghost use Rattle.tj_run.specs.Workers.{IsFree, table_program};
 ghost use Rattle.tj_run.specs.Leaving.{Leaves};
-ghost use Rattle.tj_run.specs.Runs.{EndsItsRun, HasLots, RestsAt};
+ghost use Rattle.tj_run.specs.Runs.{HasLots, RestsAt};
 
 use crate::turns::{wait_for_work, worker};
 use crate::why::{Left, RunFault, Why};
@@ -45,13 +45,10 @@ pub fn run_all<B: Body, P: Pool, G: Gate, R: Wait + Threads + Sync>(
     // more cells were drawn than there are; each task has ended, or is parked or has alarmed, and
     // nothing has become of what it waits for; what stands is exactly the meaning of the root, with
     // the value of each cell; each standing cycle, and each cycle of the meaning's waits, has a
-    // member that has alarmed, and each task that has alarmed is on a cycle.
+    // member that has alarmed, and each task that has alarmed is on a cycle. The words and the
+    // records are the end of a run of a table for this program from its first state: by step calls,
+    // each of a seat of which what it asks is so, by splits, and by merges of idle seats.
     ensures rest { IfOk result (RestsAt
-        (program_of B.places B.awaits B.left B.asks B.then) root cells strict) }
-    // The words and the records are the end of a run of a table for this program from its first
-    // state: by step calls, each of a seat of which what it asks is so, by splits, and by merges of
-    // idle seats.
-    ensures run { IfOk result (EndsItsRun
         (program_of B.places B.awaits B.left B.asks B.then) root cells strict) }
     // Then the meaning isn't full.
     ensures fits { IfOk result (λ _. ¬ IsFull

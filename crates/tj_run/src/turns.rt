@@ -190,9 +190,9 @@ fn live_tasks<B: Body>(laid: &Laid<B>, seat: &mut WSeat<B>) -> Result<u32, Left>
     Ok(live)
 }
 
-/// Waits before one more worker is started than so many. Two are started at once, and a further one
-/// where more tasks are live than workers are started. Where it comes to that no more, it leaves as a
-/// worker does that finds nothing to do.
+/// Waits before one more worker is started than so many. Two are started at once, where a task is live,
+/// and a further one where more tasks are live than workers are started. Where it comes to that no
+/// more, it leaves as a worker does that finds nothing to do.
 pub(crate) fn wait_for_work<B: Body, R: Wait>(
     rt: &R,
     laid: &Laid<B>,
@@ -205,15 +205,12 @@ pub(crate) fn wait_for_work<B: Body, R: Wait>(
     ensures turns { TurnsTo (program_of B.places B.awaits B.left B.asks B.then) laid.now result
         seat.old.me.0 seat.new.me }
 {
-    if started < 2 {
-        return None;
-    }
     let mut pauses = Pauses::none();
     for _i in rt.forever() {
         match live_tasks(laid, seat) {
             Err(how) => return Some(how),
             Ok(live) => {
-                if started < live {
+                if started < live.max(2) {
                     return None;
                 }
             }

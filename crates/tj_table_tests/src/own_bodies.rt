@@ -9,7 +9,7 @@ use tj_base::{CellId, Oom, Pay};
 use tj_body::{Answer, Ask, Body};
 use tj_future::{Polled, Watched, look_at, run_watched};
 use tj_ports::OpenGate;
-use tj_ready::StealPool;
+use tj_ready::NewestFirstPool;
 use tj_run::run_all;
 use tj_words::{Fill, Laid, RestWords, WSeat};
 
@@ -80,7 +80,9 @@ fn has_printed<B: Body>(rest: &RestWords<B>) -> bool {
 /// Whether the root of a run by four workers has printed so.
 fn printed<R: Wait + Threads + Sync>(rt: &R, alloc: Global) -> bool {
     let root = Greeting { number: 8, step: 0 };
-    match run_all::<Greeting, StealPool, OpenGate, R>(rt, alloc, root, 16, 4, &OpenGate, false) {
+    match run_all::<Greeting, NewestFirstPool, OpenGate, R>(
+        rt, alloc, root, 16, 4, &OpenGate, false,
+    ) {
         Ok(rest) => has_printed(&rest),
         Err(_) => false,
     }
@@ -95,7 +97,7 @@ fn a_body_of_ones_own_is_run(rt: HostRuntime) -> Result<(), Fail> {
 #[test]
 fn a_body_of_ones_own_is_watched(rt: HostRuntime) -> Result<(), Fail> {
     let root = Greeting { number: 8, step: 0 };
-    let ran = run_watched::<Greeting, StealPool, OpenGate, HostRuntime>(
+    let ran = run_watched::<Greeting, NewestFirstPool, OpenGate, HostRuntime>(
         &rt,
         rt.alloc(),
         root,

@@ -12,7 +12,7 @@ use tj_chan::{ChanBody, ChatRow, TableChat, is_chat_table};
 use tj_eval::{ScriptBody, main_body};
 use tj_future::{Watched, run_polled};
 use tj_ports::OpenGate;
-use tj_ready::StealPool;
+use tj_ready::NewestFirstPool;
 use tj_syntax::{Script, script_in};
 use tj_words::Fill;
 
@@ -32,7 +32,7 @@ fn a_promise_of_a_script_is_waited_for(rt: HostRuntime) -> Result<(), Fail> {
         task giver(p) { set p = 20; return 0; }";
     let script = script(&rt, rt.alloc(), text);
     let root = main_body(rt.alloc(), &script, 100)?;
-    let told = run_polled::<ScriptBody<'_>, StealPool, OpenGate, HostRuntime>(
+    let told = run_polled::<ScriptBody<'_>, NewestFirstPool, OpenGate, HostRuntime>(
         &rt,
         rt.alloc(),
         root,
@@ -56,7 +56,7 @@ fn an_item_of_a_channel_is_waited_for(rt: HostRuntime) -> Result<(), Fail> {
         panic!(rt; "no table");
     }
     let root = ChanBody::new(rt.alloc(), TableChat::new(&lists, 0))?;
-    let told = run_polled::<ChanBody<TableChat<'_>>, StealPool, OpenGate, HostRuntime>(
+    let told = run_polled::<ChanBody<TableChat<'_>>, NewestFirstPool, OpenGate, HostRuntime>(
         &rt,
         rt.alloc(),
         root,

@@ -41,8 +41,9 @@ use Rattle.tj_told.proofs.Loaded.{TurnsStand, own_stands, round_stands}
 use Rattle.tj_told.specs.EndedNews.{ClimbsIn, IsNamedIn, IsStandingBroken}
 use Rattle.tj_told.specs.EndedNews.{IsEarly, IsStandingRound, StoodAtEnd}
 use Rattle.tj_told.specs.declared.fault.ToldFault.{ToldFault}
+use Rattle.tj_told.specs.declared.fault.ToldFault.TheVariants as fault
 use Rattle.tj_told.proofs.RunFaults.{of_err}
-use Rattle.tj_told.specs.SeenNews.{AreSeenBy, HasLogOf}
+use Rattle.tj_told.specs.SeenNews.{AreSeenBy, HasLogOf, HasStopped}
 use Rattle.tj_told.specs.declared.news.News.{News}
 use Rattle.tj_told.specs.ToldLoads.{HasRound, Turn}
 use Rattle.tj_told.specs.ToldLinks.{AreLinksOf, ClimbsTo, IsSeenRound, SeesName}
@@ -166,12 +167,14 @@ module _ {B : Type 0} (program : Bool → B → Program B) (limit : ℕ) (strict
 pub stood : {B : Type 0} → EveryMoment B → (program : Bool → B → Program B) (limit : ℕ) (strict : Bool) (root : B)
     (wanted : Option Name) (seat : SeatShown (Option (Rec B)) (View B)) (cells : List RestCell)
     (records : List (Option (Rec B))) → EndsRun program limit strict root seat cells records → (told : List News)
-    → AreSeenBy wanted seat told → StoodAtEnd program limit strict root wanted told
-stood every program limit strict root wanted seat cells records e told seen = record {
+    → AreSeenBy wanted seat told → (why : ToldFault) → (why ≡ fault.Stopped → HasStopped seat)
+    → StoodAtEnd program limit strict root wanted why told
+stood every program limit strict root wanted seat cells records e told seen why stopped = record {
   seat = seat;
   cells = cells;
   records = records;
   ends = e;
+  stopped = stopped;
   cycles = λ c i. let l = seen.cycles c i in
       cycle_stands program limit strict root seat cells records e every l.0 l.1 c l.2;
   broken = λ q i. let l = seen.broken q i in (
@@ -192,8 +195,18 @@ stood every program limit strict root wanted seat cells records e told seen = re
 -- what a run that has no outcome gives of what was told
 pub early_by : {B A : Type 0} → EveryMoment B → (program : Bool → B → Program B) (limit : ℕ) (strict : Bool) (root : B)
     (wanted : Option Name) (r : Result A ToldFault) (f : ToldFault) → r ≡ Err f → (told : List News)
-    → IfErr r (λ fault. (told ≡ []) ⊎ ((seat : SeatShown (Option (Rec B)) (View B)) × (cells : List RestCell)
+    → IfErr r (λ why. (told ≡ []) ⊎ ((seat : SeatShown (Option (Rec B)) (View B)) × (cells : List RestCell)
     × (records : List (Option (Rec B))) × EndsRun program limit strict root seat cells records
-    × AreSeenBy wanted seat told)) → IsEarly program limit strict root wanted told
+    × AreSeenBy wanted seat told × (why ≡ fault.Stopped → HasStopped seat)))
+    → IsEarly program limit strict root wanted f told
 early_by every program limit strict root wanted r f is told h = ⊎_elim (λ e. inl e)
-    (λ s. inr (inl (stood every program limit strict root wanted s.0 s.1 s.2 s.3 told s.4))) (of_err _ r f is h)
+    (λ s. inr (inl (stood every program limit strict root wanted s.0 s.1 s.2 s.3 told s.4 f s.5)))
+    (of_err _ r f is h)
+
+-- where the run was at rest and memory was lacking then, nobody had stopped it
+pub stood_at_rest : {B : Type 0} → EveryMoment B → (program : Bool → B → Program B) (limit : ℕ) (strict : Bool)
+    (root : B) (wanted : Option Name) (seat : SeatShown (Option (Rec B)) (View B)) (cells : List RestCell)
+    (records : List (Option (Rec B))) → EndsRun program limit strict root seat cells records → (told : List News)
+    → AreSeenBy wanted seat told → StoodAtEnd program limit strict root wanted fault.Oom told
+stood_at_rest every program limit strict root wanted seat cells records e told seen =
+    stood every program limit strict root wanted seat cells records e told seen fault.Oom (λ is. absurd (cc))

@@ -16,8 +16,9 @@ use Rattle.tj_words.specs.SeatViews.Views.{both}
 use Rattle.tj_record.specs.declared.record.Rec.{Rec}
 use Rattle.tj_words.specs.declared.view.View.{View}
 use Rattle.tj_told.specs.Observers.{KnowsName, LooksOn}
-use Rattle.tj_told.specs.SeenNews.{AreSeen, AreSeenBy, HasSeenBroken, HasSeenValue, IsBrokenNow, IsSeenAs}
+use Rattle.tj_told.specs.SeenNews.{AreSeen, AreSeenBy, HasSeenBroken, HasSeenValue, HasStopped, IsBrokenNow, IsSeenAs}
 use Rattle.tj_told.specs.ToldLinks.{IsSeenRound, SeesName}
+use Rattle.tj_told.specs.ToldLoads.{StopsLast}
 use Rattle.tj_told.specs.declared.news.News.{News}
 use Rattle.tj_told.specs.declared.news.News.TheVariants as news
 use Rattle.tj_told.proofs.Climbing.{cell_on, name_where}
@@ -238,6 +239,19 @@ module _ {B : Type 0} where
     broken = λ q i. let s = h.broken q i in (s.0, s.2.loaded, s.2.named);
     values = h.values;
   }
+
+  -- so is its store of STOP that of its own seat, and of the seat that takes it in
+  pub stopped_own : (watched : SeatOf B) → StopsLast watched.log → HasStopped watched
+  stopped_own watched s = (watched.log, inl refl, s)
+
+  pub stopped_taken : (worked watched now : SeatOf B) → now.took ≡ worked.took ++ watched.log ∷ watched.took
+      → StopsLast watched.log → HasStopped now
+  stopped_taken worked watched now took s = (
+    watched.log,
+    inr (subst (IsIn watched.log) (sym took) (in_right watched.log worked.took (watched.log ∷ watched.took)
+        (inl refl))),
+    s,
+  )
 
   -- what an observer has seen is seen by the seat that takes it in
   pub seen_taken : {w : Option Name} (worked watched now : SeatOf B) (met : List Bool) (told : List News)

@@ -1,5 +1,5 @@
 -- Which faults a run has, by those of its parts.
-use Rattle.std.proofs.Common.{◌≡◌, ◌≢◌, ℕ, Bool, List, [], Result, Ok, Err, IfErr, IfOk, inr, refl, sym, subst}
+use Rattle.std.proofs.Common.{◌≡◌, ◌≢◌, ℕ, Bool, List, [], Result, Ok, Err, IfErr, IfOk, inr, refl, sym, subst, ◌∙◌}
 use Rattle.tj_body.specs.Programs.{Program}
 use Rattle.std.proofs.Common.{Option}
 use Rattle.tj_base.specs.ForkOrder.{Name}
@@ -19,6 +19,8 @@ use Rattle.tj_told.specs.declared.fault.ToldFault.{ToldFault}
 use Rattle.tj_told.specs.declared.fault.ToldFault.TheVariants as fault
 use Rattle.tj_told.specs.declared.listener.Goes.{Goes}
 use Rattle.tj_told.specs.declared.news.News.{News}
+use Rattle.tj_told.specs.declared.observer.Sight.{Sight}
+use Rattle.tj_told.specs.declared.observer.Sight.TheVariants as sight
 
 -- what a listener has heard where a part of the run ended with this fault
 pub heard_until : {T A : Type 0} (tells : T → News → Goes → T → Type 0) (told : List News) (s t : T)
@@ -47,10 +49,11 @@ pub both_ok : {A E : Type 0} {P Q R : A → Type 0} (r : Result A E) → ((x : A
 both_ok (Ok x) f h k = f x h k
 both_ok (Err e) f h k = tt
 
--- and of a fault
-pub err_so : {A E : Type 0} {P Q : E → Type 0} (r : Result A E) → ((x : E) → P x → Q x) → IfErr r P → IfErr r Q
-err_so (Ok x) f h = tt
-err_so (Err e) f h = f e h
+-- and of a fault, with that it is the answer's
+pub err_is : {A E : Type 0} {P Q : E → Type 0} (r : Result A E) → ((x : E) → r ≡ Err x → P x → Q x) → IfErr r P
+    → IfErr r Q
+err_is (Ok x) f h = tt
+err_is (Err e) f h = f e refl h
 
 pub of_err : {A E : Type 0} (P : E → Type 0) (r : Result A E) (e : E) → r ≡ Err e → IfErr r P → P e
 of_err {A} {E} P r e is h = let k : IfErr {T = A} (Err e) P = subst (λ (z : Result A E). IfErr z P) is h in k
@@ -67,12 +70,17 @@ ends_on program l m s t x y seat cells records e f g h =
 -- what a run of a script's body gives is so of the script
 pub early_of_script : {T A : Type 0} (tells : T → News → Goes → T → Type 0) (s t : T) (script : List Task) (o : Options)
     (wanted : Option Name) (root : TaskState) → IsMainBody script o.steps root → (r : Result A ToldFault)
-    → IfErr r (λ fault. (told : List News) × IsHeardUntil tells fault told s t
-    × IsEarly script_program o.cells o.strict root wanted told)
-    → IfErr r (λ fault. (told : List News) × IsHeardUntil tells fault told s t × IsEarlyOfScript script o wanted told)
+    → IfErr r (λ why. (told : List News) × IsHeardUntil tells why told s t
+    × IsEarly script_program o.cells o.strict root wanted why told)
+    → IfErr r (λ why. (told : List News) × IsHeardUntil tells why told s t
+    × IsEarlyOfScript script o wanted why told)
 early_of_script tells s t script o wanted root is (Ok x) h = h
 early_of_script tells s t script o wanted root is (Err fault) h = (h.0, h.1, inr (root, is, h.2))
 
 -- where nothing was told, nothing was heard
 pub nothing_heard : {T : Type 0} (tells : T → News → Goes → T → Type 0) (s : T) → Hears tells [] s s
 nothing_heard tells s = record { calls = refl; apart = tt }
+
+-- who stops the run doesn't leave at its end
+pub no_end : (s : Sight) → s ≡ sight.Stops → s ≢ sight.Ended
+no_end s is left = let z : sight.Stops ≡ sight.Ended = sym is ∙ left in absurd (cc)

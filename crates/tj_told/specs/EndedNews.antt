@@ -26,7 +26,10 @@ use Rattle.tj_record.specs.declared.record.Rec.{Rec}
 use Rattle.tj_words.specs.declared.view.View.{View}
 use Rattle.tj_told.specs.ToldLinks.{AreLinksOf, IsFromLeast}
 use Rattle.tj_told.specs.ToldLoads.{ComesBack, Turn}
+use Rattle.tj_told.specs.SeenNews.{HasStopped}
 use Rattle.tj_told.specs.ToldNews.{AreOf}
+use Rattle.tj_told.specs.declared.fault.ToldFault.{ToldFault}
+use Rattle.tj_told.specs.declared.fault.ToldFault.TheVariants as fault
 use Rattle.tj_told.specs.declared.news.News.{News}
 use Rattle.tj_told.specs.declared.news.News.TheVariants as news
 
@@ -68,12 +71,14 @@ module _ {B : Type 0} (program : Bool → B → Program B) (limit : ℕ) (strict
   where
     -- what was told stood in the table when the run ended: by the cells at the end of a run of the table of this root
     -- and limit, from its first state on, each cycle stands, and each broken cell is broken, as it is in some round of
-    -- the meaning; and a value that was told is, in some round, that of the cell of the wanted name
-    pub record StoodAtEnd (told : List News) : Type 0 where
+    -- the meaning; and a value that was told is, in some round, that of the cell of the wanted name. Where the listener
+    -- has stopped the run, the last step of the seat that looked on stored 2 in STOP
+    pub record StoodAtEnd (why : ToldFault) (told : List News) : Type 0 where
       pub seat : SeatShown (Option (Rec B)) (View B)
       pub cells : List RestCell
       pub records : List (Option (Rec B))
       pub ends : EndsRun program limit strict root seat cells records
+      pub stopped : why ≡ fault.Stopped → HasStopped seat
       pub cycles : (c : List Link) → IsIn (news.Cycle c) told → IsStandingRound cells c
       pub broken : (q : Name) → IsIn (news.Broken q) told
           → IsStandingBroken cells q × Becomes (program strict root) q entry.Broken
@@ -89,11 +94,11 @@ module _ {B : Type 0} (program : Bool → B → Program B) (limit : ℕ) (strict
       pub values : (q : Name) (v : Shown) → IsIn (news.Value q v) told
           → (wanted ≡ Some q) × IsOfName (program strict root) limit q (Some (became.Value v))
 
-    -- nothing was told, or what was told stood at the end, or it is of the outcome of the meaning
-    abbrev pub IsEarly : List News → Type 0
-    IsEarly told = (told ≡ []) ⊎ (StoodAtEnd told ⊎ ((o : Outcome) × IsOfOutcome o told))
+    -- with this fault nothing was told, or what was told stood at the end, or it is of the outcome of the meaning
+    abbrev pub IsEarly : ToldFault → List News → Type 0
+    IsEarly why told = (told ≡ []) ⊎ (StoodAtEnd why told ⊎ ((o : Outcome) × IsOfOutcome o told))
 
 -- the same of a script with these options: nothing was told, or it is so of the body of `main` as the root
-abbrev pub IsEarlyOfScript : List Task → Options → Option Name → List News → Type 0
-IsEarlyOfScript script o wanted told = (told ≡ []) ⊎ ((root : TaskState) × IsMainBody script o.steps root
-    × IsEarly script_program o.cells o.strict root wanted told)
+abbrev pub IsEarlyOfScript : List Task → Options → Option Name → ToldFault → List News → Type 0
+IsEarlyOfScript script o wanted why told = (told ≡ []) ⊎ ((root : TaskState) × IsMainBody script o.steps root
+    × IsEarly script_program o.cells o.strict root wanted why told)

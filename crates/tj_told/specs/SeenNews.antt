@@ -14,6 +14,7 @@ use Rattle.tj_record.specs.declared.record.Rec.{Rec}
 use Rattle.tj_words.specs.declared.view.View.{View}
 use Rattle.tj_words.specs.LawParts.TreeWords.{AreCells}
 use Rattle.tj_words.specs.SeatViews.KnownEntries.{HasSeen}
+use Rattle.tj_told.specs.ToldLoads.{StopsLast}
 use Rattle.tj_told.specs.Observers.{KnowsCell, KnowsName}
 use Rattle.tj_told.specs.ToldLinks.{IsSeenRound, SeesName}
 use Rattle.tj_told.specs.declared.news.News.{News}
@@ -60,6 +61,10 @@ module _ {B : Type 0} where
   -- the log is the seat's own, or one that it has taken in
   abbrev pub HasLogOf : SeatShown (Option (Rec B)) (View B) → List Entry → Type 0
   HasLogOf seat log = (log ≡ seat.log) ⊎ IsIn log seat.took
+
+  -- the last step of one of its logs stored 2 in STOP
+  abbrev pub HasStopped : SeatShown (Option (Rec B)) (View B) → Type 0
+  HasStopped seat = (log : List Entry) × HasLogOf seat log × StopsLast log
 
   -- each cycle that was told is a round of one of its logs, and each cell that was told to
   -- be broken was loaded as that; each value that was told is of the wanted cell, and was loaded

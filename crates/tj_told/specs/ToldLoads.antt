@@ -59,6 +59,10 @@ pub record HasRound (t : ℕ) (turns : List Turn) (log : List Entry) : Type 0 wh
   pub loads : ArePartOf (phase_load t (phase.Waiting cell way walk.Alarmed) ∷ loads_of turns) (in_order log)
   pub back : ComesBack t t turns
 
+-- the last step of the log, which stands in front, stored 2 in STOP
+abbrev pub StopsLast : List Entry → Type 0
+StopsLast log = (before : List Entry) × (log ≡ entry_of call.stops 2 0 2 ∷ before)
+
 -- the log has gone on
 abbrev pub GrowsTo : List Entry → List Entry → Type 0
 GrowsTo old new = (more : List Entry) × (new ≡ more ++ old)

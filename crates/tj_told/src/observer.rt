@@ -6,6 +6,7 @@ ghost use Rattle.std.specs.Prelude.{Option};
 ghost use Rattle.tj_base.specs.ForkOrder as fork;
 ghost use Rattle.tj_told.specs.Observers.{KnowsCell, LooksOn, Observes};
 ghost use Rattle.tj_told.specs.SeenNews.{AreSeen, IsBrokenNow};
+ghost use Rattle.tj_told.specs.ToldLoads.{StopsLast};
 ghost use Rattle.std.specs.Prelude.{true};
 ghost use Rattle.tj_base.specs.declared.cell.CellId.{CellId};
 ghost use Rattle.tj_events.specs.declared.walk.Way.{Way};
@@ -60,6 +61,7 @@ pub(crate) fn observe<B: Body, T: Listener, R: Wait>(
         → HearsOn T.tells telling result.1 (result.2 ≢ Sight.Stops) }
     ensures stops { AreSeen watch.wanted seat telling.met.items telling.news
         → IsStoppedOn T.tells telling result.1 (result.2 ≡ Sight.Stops) }
+    ensures stored { result.2 ≢ Sight.Ended → StopsLast result.0.log }
 {
     let Looks::Every(every) = watch.looks else {
         return (seat, telling, Sight::Ended);

@@ -14,7 +14,8 @@ ghost use Rattle.tj_run.specs.Workers.{IsFree, table_program};
 ghost use Rattle.tj_told.specs.EndedNews.{IsEarly};
 ghost use Rattle.tj_told.specs.Hearing.{Hears, HearsOn, IsHeardUntil, IsStoppedOn};
 ghost use Rattle.tj_told.specs.Observers.{Observes};
-ghost use Rattle.tj_told.specs.SeenNews.{AreSeen, AreSeenBy};
+ghost use Rattle.tj_told.specs.SeenNews.{AreSeen, AreSeenBy, HasStopped};
+ghost use Rattle.tj_told.specs.ToldLoads.{StopsLast};
 ghost use Rattle.tj_told.specs.ToldNews.{AreAnswers, AreTold};
 ghost use Rattle.std.specs.Prelude.{Option, None, Some};
 ghost use Rattle.tj_log.specs.Shown.{SeatShown};
@@ -80,11 +81,12 @@ pub fn run_told<B: Body, T: Listener, R: Wait + Threads + Sync>(
     // With a fault, it answered Stop to the last call where that is Stopped, and else On to each, and
     // nothing was told twice. What was told stood in the table at the end of its run: each cycle, and
     // each cell that was told to be broken. Or, where the fault came at rest, what was told is of the
-    // outcome of the meaning, which isn't full; so after Full it stood.
+    // outcome of the meaning, which isn't full; so after Full it stood. Where it is Stopped and what
+    // was told isn't said to be of the outcome, the last step of a seat of that run stored 2 in STOP.
     ensures early { IfErr result.0 (λ fault. (told : List News)
         × IsHeardUntil T.tells fault told listener result.1 × IsEarly
         (program_of B.places B.awaits B.left B.asks B.then) options.cells options.strict root None
-        told) }
+        fault told) }
     // Full comes only where the meaning is full.
     ensures full { let p = program_of B.places B.awaits B.left B.asks B.then options.strict root
         in result.0 ≡ Err ToldFault.Full → IsFull p options.cells }
@@ -141,7 +143,8 @@ pub(crate) fn run_beside<B: Body, P: Pool, G: Gate, T: Listener, R: Wait + Threa
         ⊎ ((seat : SeatShown (Option (Rec B)) (View B)) × (cells : List RestCell)
         × (records : List (Option (Rec B))) × EndsRun (program_of B.places B.awaits B.left B.asks
         B.then) options.cells options.strict root seat cells records
-        × AreSeenBy watch.wanted seat result.1.news)) }
+        × AreSeenBy watch.wanted seat result.1.news
+        × (fault ≡ ToldFault.Stopped → HasStopped seat))) }
     ensures goes { telling.news ≡ [] → HearsOn T.tells telling result.1
         (result.0 ≢ Err ToldFault.Stopped) }
     ensures stops { telling.news ≡ [] → IsStoppedOn T.tells telling result.1
@@ -262,6 +265,7 @@ fn work_told<B: Body, P: Pool, G: Gate, T: Listener, R: Wait + Threads + Sync>(
     ensures seen { telling.news ≡ [] → AreSeenBy watch.wanted result.0 result.2.news }
     ensures goes { telling.news ≡ [] → HearsOn T.tells telling result.2 (result.3 ≢ Sight.Stops) }
     ensures stops { telling.news ≡ [] → IsStoppedOn T.tells telling result.2 (result.3 ≡ Sight.Stops) }
+    ensures stored { result.3 ≢ Sight.Ended → HasStopped result.0 }
 {
     let (mine, theirs) = laid.split(seat);
     let bell = Parker::new();
@@ -273,7 +277,8 @@ fn work_told<B: Body, P: Pool, G: Gate, T: Listener, R: Wait + Threads + Sync>(
             × (telling.news ≡ [] → AreSeen watch.wanted result.0 result.1.met.items
             result.1.news)
             × (telling.news ≡ [] → HearsOn T.tells telling result.1 (result.2 ≢ Sight.Stops))
-            × (telling.news ≡ [] → IsStoppedOn T.tells telling result.1 (result.2 ≡ Sight.Stops)) }
+            × (telling.news ≡ [] → IsStoppedOn T.tells telling result.1 (result.2 ≡ Sight.Stops))
+            × (result.2 ≢ Sight.Ended → StopsLast result.0.log) }
     { observe(rt, alloc, laid, theirs, watch, bell, telling) };
     let working = move || -> (WSeat<B>, Left)
         requires { IsSync R.row × IsSync G.row × IsSend B.row × IsSend P.row

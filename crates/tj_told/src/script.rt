@@ -51,7 +51,7 @@ pub fn run_script_told<T: Listener, R: Wait + Threads + Sync>(
     // script's `main` as the root.
     ensures early { IfErr result.0 (λ fault. (told : List News)
         × IsHeardUntil T.tells fault told listener result.1
-        × IsEarlyOfScript (shown.script script.now) options None told) }
+        × IsEarlyOfScript (shown.script script.now) options None fault told) }
     // Full comes only where the script needs more cells.
     ensures full { result.0 ≡ Err ToldFault.Full → NeedsMore (shown.script script.now) options }
 {
@@ -92,7 +92,7 @@ pub fn watch_script_named<T: Listener, R: Wait + Threads + Sync>(
     // the script's `main` as the root.
     ensures early { IfErr result.0 (λ fault. (told : List News)
         × IsHeardUntil T.tells fault told listener result.1
-        × IsEarlyOfScript (shown.script script.now) options (Some name.now) told) }
+        × IsEarlyOfScript (shown.script script.now) options (Some name.now) fault told) }
     // Full comes only where the script needs more cells.
     ensures full { result.0 ≡ Err ToldFault.Full → NeedsMore (shown.script script.now) options }
 {

@@ -62,11 +62,11 @@ pub fn watch_named<B: Body, T: Listener, R: Wait + Threads + Sync>(
     // With a fault, it answered Stop to the last call where that is Stopped, and else On to each, and
     // nothing was told twice. Cycles and broken cells that were told stood, or are of the outcome, as
     // of `run_told`; a value that was told is, in some round of the meaning, that of the cell with
-    // this name.
+    // this name. That STOP was stored is said as by `run_told`.
     ensures early { IfErr result.0 (λ fault. (told : List News)
         × IsHeardUntil T.tells fault told listener result.1 × IsEarly
         (program_of B.places B.awaits B.left B.asks B.then) options.cells options.strict root
-        (Some name.now) told) }
+        (Some name.now) fault told) }
     // Full comes only where the meaning is full.
     ensures full { let p = program_of B.places B.awaits B.left B.asks B.then options.strict root
         in result.0 ≡ Err ToldFault.Full → IsFull p options.cells }

@@ -14,7 +14,7 @@ use std::thread::{self, Threads};
 use tj_eval::{ScriptBody, main_body};
 use tj_modes::Told;
 use tj_ports::{Gate, OpenGate};
-use tj_ready::StealPool;
+use tj_ready::NewestFirstPool;
 use tj_run::run_all;
 use tj_syntax::script_in;
 
@@ -107,7 +107,7 @@ fn yielding_report<R: Wait + Threads + Sync>(
         asks: 0,
     };
     let gate = DrawnGate { seed };
-    match run_all::<ShyBody<ScriptBody<'_>>, StealPool, DrawnGate, R>(
+    match run_all::<ShyBody<ScriptBody<'_>>, NewestFirstPool, DrawnGate, R>(
         rt, alloc, root, 4096, workers, &gate, false,
     ) {
         Ok(rest) => Ok(ended_at_rest(alloc, rest, Told::Report)?.output.text),

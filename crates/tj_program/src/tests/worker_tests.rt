@@ -1,9 +1,9 @@
-//! What tests alone show of the workers: that two of them enter the gate beside each other, and
-//! which closed words a run has.
+//! What tests alone show of the workers: that two of them enter the gate beside each other, that a
+//! third and a fourth one start where tasks wait for one, and which closed words a run has.
 use super::row_tests::{FIB_OF_3, FIB_OF_3_REPORT, JOIN_EACH_OTHER, answered, words_of, written};
 use std::process::Abort;
 use std::sync::Wait;
-use std::sync::atomic::{AtomicBool, Ordering};
+use std::sync::atomic::{AtomicBool, AtomicU32, Ordering};
 use std::test::Fail;
 use std::thread::Threads;
 use tj_base::CellId;
@@ -68,6 +68,48 @@ fn two_workers_enter_beside_each_other(rt: HostRuntime) -> Result<(), Fail> {
     for worker in 1..=2 {
         assert!(rt; meet(&rt, worker)?, "{worker}");
     }
+    Ok(())
+}
+
+/// A root that forks eight tasks and ends.
+const EIGHT: &str = "task main() { let i = 0; while i < 8 { fork one(); i = i + 1; } return i; } \
+    task one() { return 1; }";
+
+/// A gate that holds each worker before its second turn until so many have entered for their first.
+#[derive(Drop)]
+struct CrowdGate {
+    workers: u32,
+    entered: AtomicU32,
+    gave_up: AtomicBool,
+}
+
+impl Gate for CrowdGate {
+    fn enter(&self, _worker: u32, turn: u64) {
+        if turn == 1 {
+            self.entered.fetch_add(1, Ordering::SeqCst);
+            return;
+        }
+        for _look in 0..LOOKS {
+            if self.entered.load(Ordering::SeqCst) >= self.workers {
+                return;
+            }
+        }
+        self.gave_up.store(true, Ordering::SeqCst);
+    }
+}
+
+#[test]
+fn four_workers_enter_beside_each_other(rt: HostRuntime) -> Result<(), Fail> {
+    let gate = CrowdGate {
+        workers: 4,
+        entered: AtomicU32::new(0),
+        gave_up: AtomicBool::new(false),
+    };
+    let meant = written(&rt, "plan", EIGHT, &OpenGate)?;
+    let found = written(&rt, "run --workers 4", EIGHT, &gate)?;
+    assert!(rt; found.status == meant.status);
+    assert!(rt; found.text.as_slice() == meant.text.as_slice());
+    assert!(rt; !gate.gave_up.load(Ordering::SeqCst));
     Ok(())
 }
 

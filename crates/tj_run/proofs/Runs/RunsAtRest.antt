@@ -24,29 +24,7 @@ module _ {B : Type 0} (program : Bool → B → Program B) (root : B) (cells : �
       (subst (λ b. F laid.cells (program b root)) of_strict
       (subst (λ x. F laid.cells (program laid.strict x)) of_root h))
 
-  pub rests_at : (r : RestShown B) → r.limit ≡ laid.cells → r.root ≡ laid.root.value → r.strict ≡ laid.strict
-      → length r.cells ≤ laid.cells
-      → AreAtRest r.cells
-      → HaveMeaning (program laid.strict laid.root.value) laid.cells r.cells r.records
-      → AreCyclesAlarmed r.cells
-      → AreAlarmsOnCycles r.cells
-      → AreCyclesOfMeaningAlarmed (program laid.strict laid.root.value) laid.cells r.cells
-      → AreValuesOfMeaning (program laid.strict laid.root.value) laid.cells r.cells r.words
-      → RestsAt program root cells strict r
-  rests_at r limit root_is strict_is drawn rest meaning cycles alarms meant values = record {
-    names_limit = limit ∙ of_cells;
-    names_root = root_is ∙ of_root;
-    names_strict = strict_is ∙ of_strict;
-    drawn = subst (λ n. length r.cells ≤ n) of_cells drawn;
-    rest = rest;
-    meaning = of_run (λ n p. HaveMeaning p n r.cells r.records) meaning;
-    cycles = cycles;
-    alarms = alarms;
-    meant_cycles = of_run (λ n p. AreCyclesOfMeaningAlarmed p n r.cells) meant;
-    values = of_run (λ n p. AreValuesOfMeaning p n r.cells r.words) values;
-  }
-
-  pub ends_its_run : (seat : SeatShown (Option (Rec B)) (View B)) (r : RestShown B)
+  ends_its_run : (seat : SeatShown (Option (Rec B)) (View B)) (r : RestShown B)
       → EndsRun program laid.cells laid.strict laid.root.value seat r.cells r.records
       → EndsItsRun program root cells strict r
   ends_its_run seat r e = (
@@ -67,6 +45,31 @@ module _ {B : Type 0} (program : Bool → B → Program B) (root : B) (cells : �
       home = e.home;
     },
   )
+
+  pub rests_at : (r : RestShown B) → r.limit ≡ laid.cells → r.root ≡ laid.root.value → r.strict ≡ laid.strict
+      → length r.cells ≤ laid.cells
+      → AreAtRest r.cells
+      → HaveMeaning (program laid.strict laid.root.value) laid.cells r.cells r.records
+      → AreCyclesAlarmed r.cells
+      → AreAlarmsOnCycles r.cells
+      → AreCyclesOfMeaningAlarmed (program laid.strict laid.root.value) laid.cells r.cells
+      → AreValuesOfMeaning (program laid.strict laid.root.value) laid.cells r.cells r.words
+      → (seat : SeatShown (Option (Rec B)) (View B))
+      → EndsRun program laid.cells laid.strict laid.root.value seat r.cells r.records
+      → RestsAt program root cells strict r
+  rests_at r limit root_is strict_is drawn rest meaning cycles alarms meant values seat ends = record {
+    names_limit = limit ∙ of_cells;
+    names_root = root_is ∙ of_root;
+    names_strict = strict_is ∙ of_strict;
+    drawn = subst (λ n. length r.cells ≤ n) of_cells drawn;
+    rest = rest;
+    meaning = of_run (λ n p. HaveMeaning p n r.cells r.records) meaning;
+    cycles = cycles;
+    alarms = alarms;
+    meant_cycles = of_run (λ n p. AreCyclesOfMeaningAlarmed p n r.cells) meant;
+    values = of_run (λ n p. AreValuesOfMeaning p n r.cells r.words) values;
+    run = ends_its_run seat r ends;
+  }
 
 -- what a stop as full tells of a run that begins with the first seat
 pub full_told : {B : Type 0} (program : Bool → B → Program B) (root : B) (cells : ℕ) (strict : Bool) (how : Left)

@@ -25,14 +25,25 @@ returns-clause-left g c = let b = g.B.Body in let joined = c.join-watched in
     leaves_taken (program_of b.places b.awaits b.left b.asks b.then) c.args.laid.now.cells 0 c.args.seat.me.0
     c.requires.room joined.result.1.0 joined.result.0.1 c.take_in-seat.result.0 c.take_in-seat.result.1
     joined.result.1.1 joined.result.0.0 c.split-mine.result.0.me.0 c.split-mine.result.1.me.0
-    (ap (λ m. m.0) c.split-mine.ensures.view) (ap (λ m. m.0) c.split-mine.ensures.other_view) joined.ensures.second.1 joined.ensures.first.3
-    joined.ensures.first.4 c.take_in-seat.ensures.rested c.take_in-seat.ensures.stopped
+    (ap (λ m. m.0) c.split-mine.ensures.view) (ap (λ m. m.0) c.split-mine.ensures.other_view)
+    joined.ensures.second.1 joined.ensures.first.3 joined.ensures.first.4 c.take_in-seat.ensures.rested c.take_in-seat.ensures.stopped
 
 pub returns-clause-watched : goal.returns-clause-watched
 returns-clause-watched g c = let b = g.B.Body in let joined = c.join-watched in
     let p = program_of b.places b.awaits b.left b.asks b.then in record {
-      theirs = joined.result.0.1.me.0;
-      watched = subst (λ z. IsWatched p c.args.laid.now.cells 0 joined.result.0.0 z joined.result.0.1.me.0)
-          (ap (λ m. m.0) c.split-mine.ensures.other_view) joined.ensures.first.4;
-      taken = λ e. (joined.result.1.0.me.0, (c.take_in-seat.ensures.rested e).1);
+      given = joined.result.0.1;
+      watch = record {
+        begun = c.split-mine.result.1;
+        view = c.split-mine.ensures.other_view;
+        fresh = (c.split-mine.ensures.log.1, c.split-mine.ensures.took.1);
+        watched = subst (λ z. IsWatched p c.args.laid.now.cells 0 joined.result.0.0 z joined.result.0.1.me.0)
+            (ap (λ m. m.0) c.split-mine.ensures.other_view) joined.ensures.first.4;
+        looks = joined.ensures.first.5;
+      };
+      runs_on = c.take_in-seat.ensures.runs_on;
+      taken = λ e. (
+        joined.result.1.0.me.0,
+        (c.take_in-seat.ensures.rested e).1,
+        c.take_in-seat.ensures.took e,
+      );
     }

@@ -11,6 +11,7 @@ use Rattle.tj_words.specs.SeatViews.Views.{IsIdle}
 use Rattle.tj_record.specs.declared.record.Rec.{Rec}
 use Rattle.tj_words.specs.declared.view.View.{View}
 use Rattle.tj_run.proofs.Seats.ThreadSends.{laid_sync, slot_send}
+use Rattle.tj_future.specs.LookLogs.{MakesLooks}
 use Rattle.tj_future.specs.Looks.{IsWatched}
 use Rattle.tj_future.specs.declared.watched.Watched.{Watched}
 use Rattle.tj_future.proofs.TakenSeats.{leaves_taken, of_some}
@@ -31,7 +32,7 @@ returns-clause-left g c = let b = g.B.Body in let p = program_of b.places b.awai
     let theirs = split.result.1 in let given = c.in-Some.given in
     let P : Watched × SeatShown (Option (Rec g.row.B.Denot)) (View g.row.B.Denot) → Type 0 =
     λ z. (z.1.table_id ≡ theirs.table_id) × IsIdle z.1.me.0 × (z.1.me.1 ≡ []) × (z.1.me.0.lot ≡ theirs.me.0.lot)
-    × IsWatched p c.args.laid.now.cells k z.0 theirs.me.0 z.1.me.0 in
+    × IsWatched p c.args.laid.now.cells k z.0 theirs.me.0 z.1.me.0 × MakesLooks k z.0 theirs z.1 in
     let h = of_some P joined.result.0 given c.in-Some.is joined.ensures.first in
     leaves_taken p c.args.laid.now.cells k c.args.seat.me.0 c.requires.room joined.result.1.0 given.1 took.result.0
     took.result.1 joined.result.1.1 given.0 split.result.0.me.0 theirs.me.0 (ap (λ m. m.0) split.ensures.view)
@@ -39,14 +40,21 @@ returns-clause-left g c = let b = g.B.Body in let p = program_of b.places b.awai
 
 pub returns-clause-watched : goal.returns-clause-watched
 returns-clause-watched g c = let b = g.B.Body in let p = program_of b.places b.awaits b.left b.asks b.then in
-    let joined = c.join-waited in let split = c.split-mine in let k = c.args.p.0 in
+    let joined = c.join-waited in let split = c.split-mine in let took = c.take_in-seat in let k = c.args.p.0 in
     let theirs = split.result.1 in let given = c.in-Some.given in
     let P : Watched × SeatShown (Option (Rec g.row.B.Denot)) (View g.row.B.Denot) → Type 0 =
     λ z. (z.1.table_id ≡ theirs.table_id) × IsIdle z.1.me.0 × (z.1.me.1 ≡ []) × (z.1.me.0.lot ≡ theirs.me.0.lot)
-    × IsWatched p c.args.laid.now.cells k z.0 theirs.me.0 z.1.me.0 in
+    × IsWatched p c.args.laid.now.cells k z.0 theirs.me.0 z.1.me.0 × MakesLooks k z.0 theirs z.1 in
     let h = of_some P joined.result.0 given c.in-Some.is joined.ensures.first in record {
-      theirs = given.1.me.0;
-      watched = subst (λ z. IsWatched p c.args.laid.now.cells k given.0 z given.1.me.0)
-          (ap (λ m. m.0) split.ensures.other_view) h.4;
-      taken = λ e. (joined.result.1.0.me.0, (c.take_in-seat.ensures.rested e).1);
+      given = given.1;
+      watch = record {
+        begun = theirs;
+        view = split.ensures.other_view;
+        fresh = (split.ensures.log.1, split.ensures.took.1);
+        watched = subst (λ z. IsWatched p c.args.laid.now.cells k given.0 z given.1.me.0)
+            (ap (λ m. m.0) split.ensures.other_view) h.4;
+        looks = h.5;
+      };
+      runs_on = took.ensures.runs_on;
+      taken = λ e. (joined.result.1.0.me.0, (took.ensures.rested e).1, took.ensures.took e);
     }

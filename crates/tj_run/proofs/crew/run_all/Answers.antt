@@ -2,7 +2,7 @@ use Rattle.tj_run.proofs.Prelude.{ap, program_of, ◌∙◌, ◌≡◌}
 use Rattle.std.proofs.Common.{All, Global, Vec, length-set, rules, set}
 use Rattle.std.proofs.lemmas.List.{with_items_is}
 use Rattle.std.proofs.lemmas.List.Elements.{All-same, All-set}
-use Rattle.tj_run.proofs.Runs.RunsAtRest.{ends_its_run, full_told, rests_at}
+use Rattle.tj_run.proofs.Runs.RunsAtRest.{full_told, rests_at}
 use Rattle.tj_run.proofs.crew.run_all.Goals as goal
 use Rattle.tj_run.proofs.crew.run_all.Goals.{in-Some+in_ok-put, in_default}
 
@@ -10,12 +10,7 @@ pub returns-in-Rested-clause-rest : goal.returns-in-Rested-clause-rest
 returns-in-Rested-clause-rest g c = let b = g.B.Body in let made = c.in_ok-laid.ensures in let e = c.rest.ensures in
     rests_at (program_of b.places b.awaits b.left b.asks b.then) c.args.root c.args.cells c.args.strict
     c.in_ok-laid.laid made.cells made.strict made.root c.rest.result e.limit e.root e.strict e.drawn e.rest e.meaning
-    e.cycles e.alarms e.meant_cycles e.values
-
-pub returns-in-Rested-clause-run : goal.returns-in-Rested-clause-run
-returns-in-Rested-clause-run g c = let b = g.B.Body in let made = c.in_ok-laid.ensures in
-    ends_its_run (program_of b.places b.awaits b.left b.asks b.then) c.args.root c.args.cells c.args.strict
-    c.in_ok-laid.laid made.cells made.strict made.root c.work_all-seat.result.0 c.rest.result c.rest.ensures.run
+    e.cycles e.alarms e.meant_cycles e.values c.work_all-seat.result.0 e.run
 
 pub returns-in-Stopped-clause-full : goal.returns-in-Stopped-clause-full
 returns-in-Stopped-clause-full g c e = let b = g.B.Body in let stopped = c.in-Stopped in let all = c.work_all-seat in

@@ -15,7 +15,7 @@ loop-i-preserved g c = record {
       c.live_tasks.new.seat.me c.in-Ok.ensures.left;
 }
 
-pub returns-then-started-live-clause-turns : goal.returns-then-started-live-clause-turns
-returns-then-started-live-clause-turns g c =
+pub returns-then-started-max-clause-turns : goal.returns-then-started-max-clause-turns
+returns-then-started-max-clause-turns g c =
     left_on c.args.laid.now c.args.seat.now.me.0 c.loop-i.seat.me.0 c.loop-i.invariant.left.knows
     c.live_tasks.new.seat.me c.in-Ok.ensures.left

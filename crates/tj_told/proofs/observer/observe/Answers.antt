@@ -33,3 +33,6 @@ returns-in-Stops-clause-seen g c h = let l = c.look-sight in let e = c.stop.ensu
     let on = after_store 2 l.new.seat c.stop.new.seat e.table e.id e.me (grows_by e.log.0) in
     seen_on l.new.seat c.stop.new.seat l.new.telling.met.items l.new.telling.news on
     (l.ensures.seen (c.loop-i.invariant.seen h))
+
+pub returns-in-Stops-clause-stored : goal.returns-in-Stops-clause-stored
+returns-in-Stops-clause-stored g c left = (c.look-sight.new.seat.log, c.stop.ensures.log.0)

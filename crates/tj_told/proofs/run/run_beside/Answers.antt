@@ -1,10 +1,11 @@
-use Rattle.std.proofs.Common.{refl, sym, ap, inl, inr, ◌∙◌}
+use Rattle.std.proofs.Common.{Err, refl, sym, ap, inl, inr, ◌∙◌}
 use Rattle.tj_body.specs.Programs.{program_of}
 use Rattle.tj_run.proofs.Runs.RunsAtRest.{full_told}
 use Rattle.tj_run.specs.declared.why.Why.TheVariants as why
 use Rattle.tj_words.specs.LawParts.FirstState.{first_view}
-use Rattle.tj_told.proofs.RunFaults.{both_ok, ends_on, err_so}
+use Rattle.tj_told.proofs.RunFaults.{both_ok, ends_on, err_is, no_end}
 use Rattle.tj_told.proofs.TakenSeats.{rested_so}
+use Rattle.tj_told.specs.declared.fault.ToldFault.{ToldFault}
 use Rattle.tj_told.proofs.run.run_beside.Goals as goal
 
 pub ended-requires-clause-rested : goal.ended-requires-clause-rested
@@ -37,13 +38,15 @@ pub returns-clause-early : goal.returns-clause-early
 returns-clause-early g c none = let b = g.B.Body in let w = c.work_told-seat in let m = c.in-Ok.made in
     let e = c.in-Ok.ensures in let o = c.args.options in
     let p = program_of b.places b.awaits b.left b.asks b.then in
-    err_so c.ended.result (λ fault h. inr (
+    err_is c.ended.result (λ why is h. inr (
       w.result.0,
       h.0,
       h.1,
       ends_on p m.0.cells o.cells m.0.strict o.strict m.0.root.value c.args.root w.result.0 h.0 h.1 e.cells e.strict
           e.root h.2,
       w.ensures.seen none,
+      λ s. w.ensures.stored (λ left. no_end w.result.3
+          (c.ended.ensures.stopped (is ∙ ap (λ (z : ToldFault). Err z) s)) left),
     )) c.ended.ensures.ended
 
 pub returns-clause-goes : goal.returns-clause-goes

@@ -8,7 +8,7 @@ use Rattle.tj_record.specs.declared.record.Rec.{Rec}
 use Rattle.tj_words.specs.declared.view.View.{View}
 use Rattle.tj_told.specs.SeenNews.{AreSeenBy}
 use Rattle.tj_told.proofs.Hearings.{all_told, some_none}
-use Rattle.tj_told.proofs.EndedRounds.{early_by, stood}
+use Rattle.tj_told.proofs.EndedRounds.{early_by, stood_at_rest}
 use Rattle.tj_told.proofs.RunFaults.{first_hears, heard_until, of_ok, ok_no_stop}
 use Rattle.tj_told.proofs.SeenRounds.{of_outcome}
 use Rattle.tj_told.proofs.run.run_told.Goals as goal
@@ -35,7 +35,7 @@ returns-in-Err-outcome_of-clause-early g c =
       r.result.1.news,
       r.ensures.goes t.ensures.news c.args.listener (first_hears g.T.Listener.tells t.result.news c.args.listener
           t.result.listener t.ensures.news t.ensures.listener) (ok_no_stop r.result.0 rest c.in-Ok.is),
-      inr (inl (stood c.every_moment.ensures p x.cells x.strict root None s.0 rest.cells rest.records s.1
+      inr (inl (stood_at_rest c.every_moment.ensures p x.cells x.strict root None s.0 rest.cells rest.records s.1
           r.result.1.news s.2)),
     )
 

@@ -9,8 +9,8 @@ use Rattle.tj_body.specs.Programs.{program_of}
 use Rattle.tj_words.specs.contracts.view.View as view
 use Rattle.tj_run.proofs.Seats.ThreadSends.{laid_sync, seven_send, slot_send}
 use Rattle.tj_told.proofs.telling.Telling.TheSendSync as telling
-use Rattle.tj_told.proofs.KeptNews.{seen_own, seen_taken}
-use Rattle.tj_told.specs.SeenNews.{AreSeenBy}
+use Rattle.tj_told.proofs.KeptNews.{seen_own, seen_taken, stopped_own, stopped_taken}
+use Rattle.tj_told.specs.SeenNews.{AreSeenBy, HasStopped}
 use Rattle.tj_told.proofs.TakenSeats.{bell_sync, either_left, leaves_taken, watch_send}
 use Rattle.tj_told.proofs.run.work_told.Goals as goal
 
@@ -38,6 +38,12 @@ returns-clause-seen g c none = let j = c.join-watched in let t = c.take_in-seat 
     (t.ensures.took rested) (t.ensures.rested rested).1 (j.ensures.first.4 none))
     (λ cause stopped. subst (λ z. AreSeenBy c.args.watch.wanted z told) (sym (t.ensures.stopped cause stopped).0)
     (seen_own j.result.0.0 j.result.0.1.met.items told (j.ensures.first.4 none)))
+
+pub returns-clause-stored : goal.returns-clause-stored
+returns-clause-stored g c left = let j = c.join-watched in let t = c.take_in-seat in
+    let s = j.ensures.first.7 left in either_left t.result.1
+    (λ rested. stopped_taken j.result.1.0 j.result.0.0 t.result.0 (t.ensures.took rested) s)
+    (λ cause stopped. subst HasStopped (sym (t.ensures.stopped cause stopped).0) (stopped_own j.result.0.0 s))
 
 pub returns-clause-goes : goal.returns-clause-goes
 returns-clause-goes g c none s h n = c.join-watched.ensures.first.5 none s h n

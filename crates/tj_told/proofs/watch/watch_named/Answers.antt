@@ -1,6 +1,7 @@
 use Rattle.std.proofs.Common.{Option, Some, inl, inr, subst}
 use Rattle.tj_body.specs.Programs.{program_of}
 use Rattle.tj_embed.proofs.Outcomes.{outcome_named}
+use Rattle.tj_embed.proofs.RestNames.{values_named}
 use Rattle.tj_log.specs.Shown.{SeatShown}
 use Rattle.tj_run.specs.Runs.{RestsAt}
 use Rattle.tj_words.specs.AtRest.EndedRuns.{EndsRun}
@@ -8,11 +9,19 @@ use Rattle.tj_record.specs.declared.record.Rec.{Rec}
 use Rattle.tj_words.specs.declared.view.View.{View}
 use Rattle.tj_told.specs.EndedNews.{IsEarly}
 use Rattle.tj_told.specs.SeenNews.{AreSeenBy}
-use Rattle.tj_told.proofs.EndedRounds.{early_by, stood}
+use Rattle.tj_told.proofs.EndedRounds.{early_by, stood_at_rest}
 use Rattle.tj_told.proofs.Hearings.{all_told}
 use Rattle.tj_told.proofs.RunFaults.{first_hears, heard_until, of_ok, ok_no_stop}
 use Rattle.tj_told.proofs.SeenRounds.{answered, became_named, of_outcome}
+use Rattle.tj_told.specs.declared.fault.ToldFault.TheVariants as fault
 use Rattle.tj_told.proofs.watch.watch_named.Goals as goal
+
+pub value_named-requires-clause-values : goal.value_named-requires-clause-values
+value_named-requires-clause-values g c κs within =
+    let b = g.B.Body in let p = program_of b.places b.awaits b.left b.asks b.then in let x = c.args.options in
+    let r = c.run_beside-rest in let rest = c.in-Ok-rest.rest in
+    values_named p c.args.root x.cells x.strict rest
+    (of_ok (RestsAt p c.args.root x.cells x.strict) r.result.0 rest c.in-Ok-rest.is r.ensures.rest)
 
 pub returns-in-Err-rest-clause-early : goal.returns-in-Err-rest-clause-early
 returns-in-Err-rest-clause-early g c =
@@ -22,7 +31,7 @@ returns-in-Err-rest-clause-early g c =
       r.result.1.news,
       heard_until g.T.Listener.tells r.result.1.news s r.result.1.listener r.result.0 w.why w.is
           (r.ensures.goes t.ensures.news s first) (r.ensures.stops t.ensures.news s first),
-      subst (λ q. IsEarly p x.cells x.strict c.args.root (Some q) r.result.1.news) c.in-Ok.ensures
+      subst (λ q. IsEarly p x.cells x.strict c.args.root (Some q) w.why r.result.1.news) c.in-Ok.ensures
           (early_by c.every_moment.ensures p x.cells x.strict c.args.root (Some c.in-Ok.copy) r.result.0 w.why w.is
           r.result.1.news (r.ensures.early t.ensures.news)),
     )
@@ -37,8 +46,8 @@ returns-in-Err-value_named-clause-early g c =
       r.result.1.news,
       r.ensures.goes t.ensures.news c.args.listener (first_hears g.T.Listener.tells t.result.news c.args.listener
           t.result.listener t.ensures.news t.ensures.listener) (ok_no_stop r.result.0 rest c.in-Ok-rest.is),
-      subst (λ q. IsEarly p x.cells x.strict root (Some q) r.result.1.news) c.in-Ok.ensures (inr (inl
-          (stood c.every_moment.ensures p x.cells x.strict root (Some c.in-Ok.copy) s.0 rest.cells rest.records s.1
+      subst (λ q. IsEarly p x.cells x.strict root (Some q) fault.Oom r.result.1.news) c.in-Ok.ensures (inr (inl
+          (stood_at_rest c.every_moment.ensures p x.cells x.strict root (Some c.in-Ok.copy) s.0 rest.cells rest.records s.1
           r.result.1.news s.2))),
     )
 
@@ -52,8 +61,8 @@ returns-in-Err-outcome_of-clause-early g c =
       r.result.1.news,
       r.ensures.goes t.ensures.news c.args.listener (first_hears g.T.Listener.tells t.result.news c.args.listener
           t.result.listener t.ensures.news t.ensures.listener) (ok_no_stop r.result.0 rest c.in-Ok-rest.is),
-      subst (λ q. IsEarly p x.cells x.strict root (Some q) r.result.1.news) c.in-Ok.ensures (inr (inl
-          (stood c.every_moment.ensures p x.cells x.strict root (Some c.in-Ok.copy) s.0 rest.cells rest.records s.1
+      subst (λ q. IsEarly p x.cells x.strict root (Some q) fault.Oom r.result.1.news) c.in-Ok.ensures (inr (inl
+          (stood_at_rest c.every_moment.ensures p x.cells x.strict root (Some c.in-Ok.copy) s.0 rest.cells rest.records s.1
           r.result.1.news s.2))),
     )
 
