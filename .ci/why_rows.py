@@ -30,6 +30,11 @@ CROWD = ("task main() {\n  let i = 0;\n  while i < 3 { fork client(i); i = i + 1
 DEADLOCK = ("task main() {\n  let p = new;\n  let q = new;\n  fork a(own p, q);\n  fork a(own q, p);\n  let x = get p;\n}\n"
             "task a(mine, other) {\n\tlet z = get other; set mine = z;\n}\n")
 
+# A promise that its task had handed on, set before, that another set, that another owned, and handed twice.
+WENT = ("task main() {\n  let p = new;\n  let q = new;\n  fork f(own p, -7);\n  fork g(p);\n  fork g(q);\n"
+        "  fork h();\n  set p = 1;\n}\ntask f(p, n) { set p = n; set p = 2; }\ntask g(x) { set x = 3; }\n"
+        "task h() { let r = new; fork k(own r, own r); }\ntask k(a, b) { }\n")
+
 # What a row shows, the words, a script, and the text.
 TOLD = (
     ("a promise owed", "", OWED,
@@ -40,8 +45,15 @@ TOLD = (
     ("a join against the order by the strict rule", "--strict --short", ANCESTOR,
      "failed: 0.1 (task kid(0), forked at 1:15) at 2:23: order 0\n"),
     ("the same without it", "", ANCESTOR, "nothing is wrong: 2 tasks ended, each promise was set\n"),
-    ("too few cells", "--cells 1 --all", OWED, "full: more than 1 cells\n"),
-    ("a cell too few", "--cells 2", OWES_AT_THE_BRACE, "full: more than 2 cells\n"),
+    ("too few cells", "--cells 1 --all", OWED,
+     "full: more than 1 cells\n  1 of the first 2 made at 2:11\n"),
+    ("a cell too few", "--cells 2", OWES_AT_THE_BRACE,
+     "full: more than 2 cells\n  1 of the first 3 made at 1:23\n"),
+    ("a statement that made as many as a later one", "--cells 4", "task main() { fork main(); fork main(); }",
+     "full: more than 4 cells\n  2 of the first 5 made at 1:15\n"),
+    ("promises of the first task before the second task", "--cells 4",
+     "task main() { fork a(); fork a(); }\ntask a() { let i = 0; while i < 3 { let p = new; i = i + 1; } }\n",
+     "full: more than 4 cells\n  3 of the first 5 made at 2:45\n"),
     ("just enough, and a promise that is owed at the closing brace", "--cells 3", OWES_AT_THE_BRACE,
      "owed: the promise 0.1 (p, made at 1:23) was never set: 0 (task main) owned it and ended at 1:40\n"),
     ("several tasks", "--short", SEVERAL,
@@ -178,25 +190,52 @@ TOLD = (
      '  "0" -> "0" [color=red, penwidth=3];\n}\n'),
     ("nothing is wrong, as an object", "--json", "task main() { fork f(); } task f() { }",
      '{"kind":"fine","tasks":2}\n'),
-    ("too few cells, as an object", "--all --json --cells 1", OWED, '{"kind":"full","cells":1}\n'),
+    ("too few cells, as an object", "--all --json --cells 1", OWED, '{"kind":"full","cells":1,"most":1,"at":"2:11"}\n'),
     ("a cycle and a wait behind it, as objects", "--json", DEADLOCK,
      '{"kind":"deadlock","level":0,"waits":['
-     '{"task":{"name":"0.3","task":"a","forked":"4:3","stopped":"waits","at":"9:10"},'
+     '{"task":{"name":"0.3","task":"a","began":["0.1","0.2"],"forked":"4:3","stopped":"waits","at":"9:10"},'
      '"cell":{"name":"0.2","sort":"promise","made":"3:11","variable":"q"},"owner":"0.4"},'
-     '{"task":{"name":"0.4","task":"a","forked":"5:3","stopped":"waits","at":"9:10"},'
+     '{"task":{"name":"0.4","task":"a","began":["0.2","0.1"],"forked":"5:3","stopped":"waits","at":"9:10"},'
      '"cell":{"name":"0.1","sort":"promise","made":"2:11","variable":"p"},"owner":"0.3"}]}\n'
      '{"kind":"behind","level":1,"wait":'
-     '{"task":{"name":"0","task":"main","forked":null,"stopped":"waits","at":"6:11"},'
+     '{"task":{"name":"0","task":"main","began":[],"forked":null,"stopped":"waits","at":"6:11"},'
      '"cell":{"name":"0.1","sort":"promise","made":"2:11","variable":"p"},"owner":"0.3"}}\n'),
     ("failures, an echo and a promise that is owed, as objects", "--all --json --short",
      "task main() {\n  let t = fork bad();\n  join t;\n}\ntask bad() { let p = new; let x = 1 / 0; }\n",
-     '{"kind":"failed","level":0,"task":{"name":"0.1","task":"bad","forked":"2:11","stopped":"failed","at":"5:27"},'
-     '"cause":"arith","reason":"division by zero","cell":null}\n'
+     '{"kind":"failed","level":0,'
+     '"task":{"name":"0.1","task":"bad","began":[],"forked":"2:11","stopped":"failed","at":"5:27"},'
+     '"cause":"arith","reason":"division by zero","cell":null,"went":null}\n'
      '{"kind":"owed","level":1,"cell":{"name":"0.1.1","sort":"promise","made":"5:22","variable":"p"},'
-     '"task":{"name":"0.1","task":"bad","forked":"2:11","stopped":"failed","at":"5:27"}}\n'
-     '{"kind":"echo","level":1,"task":{"name":"0","task":"main","forked":null,"stopped":"failed","at":"3:3"},'
+     '"task":{"name":"0.1","task":"bad","began":[],"forked":"2:11","stopped":"failed","at":"5:27"}}\n'
+     '{"kind":"echo","level":1,'
+     '"task":{"name":"0","task":"main","began":[],"forked":null,"stopped":"failed","at":"3:3"},'
      '"cell":{"name":"0.1","sort":"task","made":"2:11","variable":null},'
-     '"origin":{"name":"0.1","task":"bad","forked":"2:11","stopped":"failed","at":"5:27"}}\n'),
+     '"origin":{"name":"0.1","task":"bad","began":[],"forked":"2:11","stopped":"failed","at":"5:27"}}\n'),
+    ("where promises went, and arguments, as objects", "--json", WENT,
+     '{"kind":"failed","level":0,'
+     '"task":{"name":"0","task":"main","began":[],"forked":null,"stopped":"failed","at":"8:3"},'
+     '"cause":"owner","reason":null,"cell":{"name":"0.1","sort":"promise","made":"2:11","variable":"p"},'
+     '"went":{"kind":"handed here","to":"0.3","at":"4:3"}}\n'
+     '{"kind":"owed","level":1,"cell":{"name":"0.2","sort":"promise","made":"3:11","variable":"q"},'
+     '"task":{"name":"0","task":"main","began":[],"forked":null,"stopped":"failed","at":"8:3"}}\n'
+     '{"kind":"failed","level":0,'
+     '"task":{"name":"0.3","task":"f","began":["0.1",-7],"forked":"4:3","stopped":"failed","at":"10:27"},'
+     '"cause":"owner","reason":null,"cell":{"name":"0.1","sort":"promise","made":"2:11","variable":"p"},'
+     '"went":{"kind":"set here","at":"10:16"}}\n'
+     '{"kind":"failed","level":0,'
+     '"task":{"name":"0.4","task":"g","began":["0.1"],"forked":"5:3","stopped":"failed","at":"11:13"},'
+     '"cause":"owner","reason":null,"cell":{"name":"0.1","sort":"promise","made":"2:11","variable":"p"},'
+     '"went":{"kind":"set","by":"0.3","at":"10:16"}}\n'
+     '{"kind":"failed","level":0,'
+     '"task":{"name":"0.5","task":"g","began":["0.2"],"forked":"6:3","stopped":"failed","at":"11:13"},'
+     '"cause":"owner","reason":null,"cell":{"name":"0.2","sort":"promise","made":"3:11","variable":"q"},'
+     '"went":{"kind":"owned","by":"0"}}\n'
+     '{"kind":"failed","level":0,'
+     '"task":{"name":"0.6","task":"h","began":[],"forked":"7:3","stopped":"failed","at":"12:25"},'
+     '"cause":"owner","reason":null,"cell":{"name":"0.6.1","sort":"promise","made":"12:20","variable":"r"},'
+     '"went":{"kind":"handed twice"}}\n'
+     '{"kind":"owed","level":1,"cell":{"name":"0.6.1","sort":"promise","made":"12:20","variable":"r"},'
+     '"task":{"name":"0.6","task":"h","began":[],"forked":"7:3","stopped":"failed","at":"12:25"}}\n'),
     ("a promise set twice by one task", "--short", "task main() {\n  let p = new;\n  set p = 1;\n  set p = 2;\n}\n",
      "failed: 0 (task main) at 4:3: owner 0.1 (p, made at 2:11), set at 3:3\n"),
     ("a promise that another task set", "--short", "task main() {\n  let p = new;\n  fork f(own p);\n  fork g(p);\n}\n"

@@ -17,15 +17,15 @@ use Rattle.tj_mean.specs.declared.outcome.Link.{Link}
 use Rattle.tj_mean.proofs.Lists.NameOrder.{in_permuted, in_unpermuted}
 use Rattle.tj_syntax.specs.PlacesOf.{PlacesOfTask}
 use Rattle.tj_syntax.specs.Trees.{Task}
-use Rattle.tj_explain.proofs.DebtsOnce.{total_permuted}
-use Rattle.tj_explain.specs.CellsTold.{cells_in}
-use Rattle.tj_explain.specs.Explanations.{TellsEachOnce, cycles_in, debts_in, failures_in, told_waits_in, waits_in}
-use Rattle.tj_explain.specs.Origins.{BeginsEchoes}
-use Rattle.tj_explain.specs.Positions.{tasks_in}
+use Rattle.tj_forest.proofs.DebtsOnce.{total_permuted}
+use Rattle.tj_forest.specs.CellsTold.{cells_in}
+use Rattle.tj_forest.specs.Explanations.{TellsEachOnce, cycles_in, debts_in, failures_in, told_waits_in, waits_in}
+use Rattle.tj_forest.specs.Origins.{BeginsEchoes}
+use Rattle.tj_forest.specs.Positions.{tasks_in}
 use Rattle.tj_explain.specs.ToldFindings.{Explains}
-use Rattle.tj_explain.specs.declared.finding.Finding.{Finding}
-use Rattle.tj_explain.specs.declared.finding.Finding.TheVariants as finding
-use Rattle.tj_explain.specs.declared.finding.ToldTask.{ToldTask}
+use Rattle.tj_findings.specs.declared.finding.Finding.{Finding}
+use Rattle.tj_findings.specs.declared.finding.Finding.TheVariants as finding
+use Rattle.tj_findings.specs.declared.finding.ToldTask.{ToldTask}
 
 module _ (fs gs : List Finding) (p : IsPermutation fs gs) where
   module _ {A : Type 0} (part : Finding → List A) where
@@ -89,8 +89,7 @@ module _ (fs gs : List Finding) (p : IsPermutation fs gs) where
     histories = λ t i. h.histories t (part_here tasks_in t i);
     tasks = λ t i. h.tasks t (part_here tasks_in t i);
     cells = λ q i. h.cells q (part_here cells_in q i);
-    went = λ lines traced t q m i.
-        h.went lines traced t q m (in_permuted fs gs p (finding.Failed t (cause.Owner q) m) i);
+    went = λ t q m i. h.went t q m (in_permuted fs gs p (finding.Failed t (cause.Owner q) m) i);
     reasons = λ t c m i. h.reasons t c m (in_permuted fs gs p (finding.Failed t c m) i);
   }
 

@@ -25,17 +25,21 @@ use Rattle.tj_trace.specs.Logs.{logged_program}
 use Rattle.tj_trace.specs.TraceLaws.{script_program}
 use Rattle.tj_trace.specs.Traces.{AreTraced}
 use Rattle.tj_trace.specs.declared.line.TraceLine.{TraceLine}
+use Rattle.tj_trace.specs.declared.most.Most.{Most}
 use Rattle.tj_command.proofs.MainDeclaration.{one_main}
+use Rattle.tj_base.specs.declared.cell.Sort.TheVariants as sort
+use Rattle.tj_body.proofs.Rounds.Rises.{distinct_cells}
+use Rattle.tj_trace.proofs.OneMost.{AreOneMost, one_most}
 use Rattle.tj_trace.proofs.OneTrace.{one_trace}
 use Rattle.tj_trace.proofs.Seen.{is_of_outcome}
 use Rattle.tj_explain.proofs.Readings.{one_command}
 use Rattle.tj_explain.specs.WhyOutput.{ArePlaces, AreTokensOf, IsCommandOutput, IsOutput, IsToldFault, IsToldRun}
 use Rattle.tj_explain.specs.WhyOutput.{IsToldScript, ended, needs_more, of_command, scene_of, tells_lines, usage, was_fine}
-use Rattle.tj_explain.specs.Forests.{forest_of}
-use Rattle.tj_explain.specs.Scenes.{Told}
-use Rattle.tj_explain.specs.JsonTexts.{fine_json, forest_json, told_json}
-use Rattle.tj_explain.specs.Tellings.{fault_told, fine_told, why_text}
-use Rattle.tj_explain.specs.WhyTexts.{fine_text, forest_text, told_text}
+use Rattle.tj_findings.specs.Forests.{forest_of}
+use Rattle.tj_findings.specs.Scenes.{Told}
+use Rattle.tj_json.specs.JsonTexts.{fine_json, forest_json, told_json}
+use Rattle.tj_explain.specs.Tellings.{fault_told, fine_told, full_told, why_text}
+use Rattle.tj_texts.specs.WhyTexts.{fine_text, forest_text, told_text}
 use Rattle.tj_explain.specs.declared.telling.Telling.{Telling}
 use Rattle.tj_explain.specs.declared.telling.Telling.TheVariants as telling
 use Rattle.tj_explain.specs.declared.line.WhyCommand.{WhyCommand}
@@ -94,6 +98,17 @@ plain_text s lines o kind plain same = by kind plain where
   by telling.Dot h = absurd (cc)
   by telling.Json h = (h, objects h)
 
+-- what is told of one statement that made most is one text
+same_full : (kind : Telling) (s u : Told) (cells : ℕ) → s ≡ u → (m n : Most) → AreOneMost m n
+    → full_told kind s cells m ≡ full_told kind u cells n
+same_full kind s u cells e m n one =
+    ap (λ z. full_told kind z cells m) e ∙ ap (λ c. told c m.maker.decl m.maker.at) one.count
+    ∙ ap (λ d. told n.count d m.maker.at) one.decl ∙ ap (λ a. told n.count n.maker.decl a) one.at
+  where
+    told : ℕ → ℕ → ℕ → List ℕ
+    told c d a =
+        full_told kind u cells (record { maker = record { sort = sort.Task; decl = d; at = a }; count = c })
+
 module _ (command : WhyCommand) (input : List ℕ) (script : List Task) (tokens : List Token) (root : PlacedState) where
   abbrev cells : ℕ
   cells = command.limits.cells
@@ -123,15 +138,20 @@ module _ (command : WhyCommand) (input : List ℕ) (script : List Task) (tokens 
   -- a run is told in one way
   one_run : IsScript (kinds_of tokens) script → (a b : Status) (s t : List ℕ)
       → IsToldRun command input script tokens root a s → IsToldRun command input script tokens root b t → Same a b s t
-  one_run is a b s t (needs_more m) (needs_more n) = (refl, refl)
-  one_run is a b s t (needs_more m) (was_fine o fits h plain) = absurd (fits m)
-  one_run is a b s t (needs_more m) (ended o ls ps fits h k l) = absurd (fits m)
-  one_run is a b s t (was_fine o fits h plain) (needs_more m) = absurd (fits m)
+  one_run is a b s t (needs_more m ps full h j) (needs_more n qs also i k) = (
+    refl,
+    same_full command.telling (scene_of command input script ps) (scene_of command input script qs) cells
+        (ap (λ x. scene_of command input script x) (one_places tokens script is ps qs j k)) m n
+        (one_most (logged_program strict root) cells (distinct_cells (logged_program strict root)) m n h i),
+  )
+  one_run is a b s t (needs_more m ps full j q) (was_fine o fits h plain) = absurd (fits full)
+  one_run is a b s t (needs_more m ps full j q) (ended o ls rs fits h k l) = absurd (fits full)
+  one_run is a b s t (was_fine o fits h plain) (needs_more m ps full j q) = absurd (fits full)
   one_run is a b s t (was_fine o fits h plain) (was_fine p also i flat) =
       (refl, ap (λ (x : Outcome). fine_told command.telling (length x.lines)) (one_of o p h i))
   one_run is a b s t (was_fine o fits h plain) (ended p ms qs also i j m) =
       let back = mixed p o ms qs i h j plain in (sym back.0, sym back.1)
-  one_run is a b s t (ended o ls ps fits h k l) (needs_more m) = absurd (fits m)
+  one_run is a b s t (ended o ls ps fits h k l) (needs_more m rs full j q) = absurd (fits full)
   one_run is a b s t (ended o ls ps fits h k l) (was_fine p also i plain) = mixed o p ls ps h i k plain
   one_run is a b s t (ended o ls ps fits h k l) (ended p ms qs also i j m) =
       let outcome : o ≡ p = one_of o p h i in

@@ -16,7 +16,7 @@ own-status_of false = tt
 
 own-run : (command : WhyCommand) (input : List ℕ) (script : List Task) (tokens : List Token) (root : PlacedState)
     (status : Status) (text : List ℕ) → IsToldRun command input script tokens root status text → IsOwn status
-own-run command input script tokens root _ _ (needs_more more) = tt
+own-run command input script tokens root _ _ (needs_more most places full made placed) = tt
 own-run command input script tokens root _ _ (was_fine outcome fits is plain) = tt
 own-run command input script tokens root _ _ (ended outcome lines places fits is traced placed) = own-status_of _
 

@@ -44,37 +44,35 @@ use Rattle.tj_trace.specs.TraceLaws.{script_program}
 use Rattle.tj_trace.specs.Traces.{AreTraced}
 use Rattle.tj_trace.specs.declared.line.Maker.{Maker}
 use Rattle.tj_trace.specs.declared.line.TraceLine.{TraceLine}
-use Rattle.tj_trace.proofs.OneTrace.{one_trace}
 use Rattle.tj_trace.proofs.Seen.{is_of_outcome}
-use Rattle.tj_explain.proofs.CellsTold.{cells_are_told_right}
+use Rattle.tj_forest.proofs.CellsTold.{cells_are_told_right}
 use Rattle.tj_explain.proofs.CommandLimits.{within_limits}
-use Rattle.tj_explain.proofs.CycleOwners.{owners_are_next}
-use Rattle.tj_explain.proofs.NothingWrong.{each_fails, empty, neither, nothing_is_found}
+use Rattle.tj_forest.proofs.CycleOwners.{owners_are_next}
+use Rattle.tj_forest.proofs.NothingWrong.{each_fails, empty, neither, nothing_is_found}
 use Rattle.tj_explain.proofs.OneOutput.{not_marked}
-use Rattle.tj_explain.proofs.Forests.{holds_each}
+use Rattle.tj_forest.proofs.Forests.{holds_each}
 use Rattle.tj_explain.proofs.InOrder.{empty_there, explains_there}
-use Rattle.tj_explain.proofs.Found.{IsOf, a_cycle, a_debt, a_failure, a_wait, an_echo, is_of}
-use Rattle.tj_explain.proofs.Origins.{have_origins, other_cause}
-use Rattle.tj_explain.proofs.TasksTold.{tasks_are_of_histories}
-use Rattle.tj_explain.proofs.Placed.{tasks_are_told_right}
+use Rattle.tj_forest.proofs.Found.{IsOf, a_cycle, a_debt, a_failure, a_wait, an_echo, is_of}
+use Rattle.tj_forest.proofs.Origins.{have_origins, other_cause}
+use Rattle.tj_forest.proofs.TasksTold.{tasks_are_of_histories}
+use Rattle.tj_forest.proofs.Placed.{tasks_are_told_right}
 use Rattle.tj_explain.proofs.Readings.{one_command}
-use Rattle.tj_explain.proofs.ToldOnce.{tells_each_once}
-use Rattle.tj_explain.proofs.ReasonsTold.{reasons_are_told}
-use Rattle.tj_explain.proofs.WentsRight.{promises_went_there}
-use Rattle.tj_explain.specs.Consequences.{ConsequencesFollow}
-use Rattle.tj_explain.specs.Explanations.{OwedIt, StoppedSo, WaitsLeadToToldCycles}
-use Rattle.tj_explain.specs.Findings.{findings_of, maker_named, told_task}
-use Rattle.tj_explain.specs.Forests.{Forest, findings_in, forest_of}
-use Rattle.tj_explain.specs.Scenes.{Told}
+use Rattle.tj_forest.proofs.ToldOnce.{tells_each_once}
+use Rattle.tj_forest.proofs.ReasonsTold.{reasons_are_told}
+use Rattle.tj_forest.proofs.WentsRight.{promises_went_there}
+use Rattle.tj_forest.specs.Consequences.{ConsequencesFollow}
+use Rattle.tj_forest.specs.Explanations.{OwedIt, StoppedSo, WaitsLeadToToldCycles}
+use Rattle.tj_findings.specs.Findings.{findings_of, maker_named, told_task}
+use Rattle.tj_findings.specs.Forests.{Forest, findings_in, forest_of}
+use Rattle.tj_findings.specs.Scenes.{Told}
 use Rattle.tj_explain.specs.Tellings.{fine_told, why_text}
 use Rattle.tj_explain.specs.ToldFindings.{Explains, IsExplained, TellsFindings, TextsTellFindings}
 use Rattle.tj_explain.specs.ToldFindings.{findings_told, forest_told, own_places}
 use Rattle.tj_explain.specs.WhyOutput.{IsCommandOutput, IsToldRun, ended, needs_more, of_command, scene_of}
-use Rattle.tj_explain.specs.WentLaws.{WentThere}
 use Rattle.tj_explain.specs.WhyOutput.{usage, was_fine}
-use Rattle.tj_explain.specs.declared.finding.Finding.{Finding}
-use Rattle.tj_explain.specs.declared.finding.Finding.TheVariants as finding
-use Rattle.tj_explain.specs.declared.finding.ToldTask.{ToldTask}
+use Rattle.tj_findings.specs.declared.finding.Finding.{Finding}
+use Rattle.tj_findings.specs.declared.finding.Finding.TheVariants as finding
+use Rattle.tj_findings.specs.declared.finding.ToldTask.{ToldTask}
 use Rattle.tj_explain.specs.declared.line.WhyCommand.{WhyCommand}
 use Rattle.tj_explain.specs.declared.telling.Telling.{Telling}
 use Rattle.tj_explain.specs.declared.telling.Telling.TheVariants as telling
@@ -200,7 +198,7 @@ module _ (strict : Bool) (root : PlacedState) (N : ℕ) (o : Outcome)
     histories = λ t i. absurd i;
     tasks = λ t i. absurd i;
     cells = λ q i. absurd i;
-    went = λ lines traced t q m i. absurd i;
+    went = λ t q m i. absurd i;
     reasons = λ t c m i. absurd i;
   }
 
@@ -224,9 +222,7 @@ module _ (leads : (strict : Bool) (root : PlacedState) → WaitsLeadToToldCycles
         tasks = tasks_are_told_right script steps root main tokens is.notes is.derived strict N lines o.cycles traced;
         cells = cells_are_told_right script steps root main fresh tokens is.notes is.derived strict N lines o room
             traced out;
-        went = λ other again t q m i. subst (λ z. WentThere strict root N z t q t.went)
-            (one_trace (logged_program strict root) N lines other traced again)
-            (promises_went_there strict root N lines o traced out t q m i);
+        went = promises_went_there script steps root main tokens is.notes is.derived strict N lines o traced out;
         reasons = reasons_are_told script steps root main (kinds_of tokens) is strict N lines o.cycles traced;
       }
 
@@ -242,7 +238,7 @@ module _ (leads : (strict : Bool) (root : PlacedState) → WaitsLeadToToldCycles
         → IsPlacedMain script command.limits.steps root → (marked : Bool) (status : Status) (text : List ℕ)
         → IsToldRun command input script is.tokens root status text → status ≡ status_of marked
         → IsExplained command input marked text
-    of_run script is root main marked _ _ (needs_more full) e = absurd (no_full marked e)
+    of_run script is root main marked _ _ (needs_more most places full made placed) e = absurd (no_full marked e)
     of_run script is root main marked _ _ (was_fine o room out plain) e =
         let unmarked : marked ≡ false = same_mark marked false (sym e) in record {
           script = script;

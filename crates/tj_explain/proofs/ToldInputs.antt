@@ -30,11 +30,14 @@ use Rattle.tj_syntax.specs.Trees.{Statement, Task}
 use Rattle.tj_trace.specs.Logs.{logged_program}
 use Rattle.tj_trace.specs.TraceLaws.{script_program}
 use Rattle.tj_trace.specs.Traces.{AreTraced}
+use Rattle.tj_trace.specs.MostMade.{IsMostMade}
 use Rattle.tj_trace.specs.declared.line.TraceLine.{TraceLine}
+use Rattle.tj_trace.specs.declared.most.Most.{Most}
+use Rattle.tj_faults.specs.Carets.{lines_of}
 use Rattle.tj_explain.specs.Tellings as tellings
 use Rattle.tj_explain.specs.Tellings.{why_text}
 use Rattle.tj_explain.specs.declared.telling.Telling.{Telling}
-use Rattle.tj_explain.specs.Scenes.{Told, statements_of}
+use Rattle.tj_findings.specs.Scenes.{Told, statements_of}
 use Rattle.tj_explain.specs.WhyOutput.{ArePlaces, AreTokensOf, IsCommandOutput, IsToldRun, ended, needs_more, scene_of}
 use Rattle.tj_explain.specs.WhyOutput.{tells_lines, was_fine}
 use Rattle.tj_explain.specs.declared.line.WhyCommand.{WhyCommand}
@@ -120,20 +123,23 @@ module _ (command : WhyCommand) (input : List ℕ) (script : List Task) (tokens 
   abbrev strict : Bool
   strict = command.limits.strict
 
-  -- what the command looks things up in, with these statements
-  abbrev pub scene_by : List (List Statement) → List PlacesOfTask → Told
-  scene_by table places = record (scene_of command input script places) { statements = table }
+  -- what the command looks things up in, with these statements and these lines of the text
+  abbrev pub scene_by : List (List Statement) → List (List ℕ) → List PlacesOfTask → Told
+  scene_by table source places = record (scene_of command input script places) { statements = table; lines = source }
 
   -- a run that has ended
   pub ended_told : (outcome : Outcome) (lines : List TraceLine) (table : List (List Statement))
-      (places : List PlacesOfTask) (status : Status) (text : List ℕ) → ¬ IsFull (script_program strict root) cells
+      (source : List (List ℕ)) (places : List PlacesOfTask) (status : Status) (text : List ℕ)
+      → ¬ IsFull (script_program strict root) cells
       → IsOutcome (meaning (script_program strict root) cells) outcome
-      → AreTraced (logged_program strict root) cells lines → table ≡ statements_of script → ArePlaces tokens places
-      → status ≡ status_of (is_marked outcome)
-      → text ≡ why_text (scene_by table places) lines outcome command.telling
+      → AreTraced (logged_program strict root) cells lines → table ≡ statements_of script → source ≡ lines_of input
+      → ArePlaces tokens places → status ≡ status_of (is_marked outcome)
+      → text ≡ why_text (scene_by table source places) lines outcome command.telling
       → IsToldRun command input script tokens root status text
-  ended_told outcome lines table places status text fits is traced listed placed s t =
-      let told = t ∙ ap (λ z. why_text (scene_by z places) lines outcome command.telling) listed in
+  ended_told outcome lines table source places status text fits is traced listed split placed s t =
+      let told = t
+      ∙ ap (λ z. why_text (scene_by z source places) lines outcome command.telling) listed
+      ∙ ap (λ z. why_text (scene_by (statements_of script) z places) lines outcome command.telling) split in
       subst (λ z. IsToldRun command input script tokens root z text) (sym s)
       (subst (λ z. IsToldRun command input script tokens root (status_of (is_marked outcome)) z) (sym told)
       (ended outcome lines places fits is traced placed))
@@ -149,12 +155,17 @@ module _ (command : WhyCommand) (input : List ℕ) (script : List Task) (tokens 
       subst (λ z. IsToldRun command input script tokens root z output.text.items) (sym s)
       (subst (λ z. IsToldRun command input script tokens root Clean z) (sym t) (was_fine outcome fits is plain))
 
-  -- a run that needs more cells, of a body that is the root's
-  pub full_told : (body : TaskState) (status : Status) (text : List ℕ) → body ≡ root.task
-      → IsFull (script_program strict (record { task = body; stand = root.stand })) cells → status ≡ Full
-      → text ≡ tellings.full_told command.telling cells → IsToldRun command input script tokens root status text
-  full_told body status text same full s t =
+  -- a run that needs more cells
+  pub full_told : (most : Most) (table : List (List Statement)) (source : List (List ℕ)) (places : List PlacesOfTask)
+      (status : Status) (text : List ℕ) → IsFull (script_program strict root) cells
+      → IsMostMade (logged_program strict root) cells most
+      → table ≡ statements_of script → source ≡ lines_of input → ArePlaces tokens places → status ≡ Full
+      → text ≡ tellings.full_told command.telling (scene_by table source places) cells most
+      → IsToldRun command input script tokens root status text
+  full_told most table source places status text full made listed split placed s t =
+      let told = t
+      ∙ ap (λ z. tellings.full_told command.telling (scene_by z source places) cells most) listed
+      ∙ ap (λ z. tellings.full_told command.telling (scene_by (statements_of script) z places) cells most) split in
       subst (λ z. IsToldRun command input script tokens root z text) (sym s)
-      (subst (λ z. IsToldRun command input script tokens root Full z) (sym t)
-      (needs_more (subst (λ b. IsFull (script_program strict (record { task = b; stand = root.stand })) cells) same
-      full)))
+      (subst (λ z. IsToldRun command input script tokens root Full z) (sym told)
+      (needs_more most places full made placed))

@@ -4,17 +4,16 @@ use Rattle.tj_mean.specs.Outcomes.{is_marked}
 use Rattle.tj_mean.specs.declared.outcome.Link.{Link}
 use Rattle.tj_mean.specs.declared.outcome.Outcome.{Outcome}
 use Rattle.tj_trace.specs.declared.line.TraceLine.{TraceLine}
-use Rattle.tj_explain.specs.Forests.{Forest, forest_of}
-use Rattle.tj_explain.specs.JsonTexts.{fine_json, forest_json, told_json}
-use Rattle.tj_explain.specs.Scenes.{Told}
-use Rattle.tj_explain.specs.WhyTexts.{fine_text, forest_text, told_text}
+use Rattle.tj_findings.specs.Forests.{Forest, forest_of}
+use Rattle.tj_json.specs.JsonTexts.{fine_json, forest_json, told_json}
+use Rattle.tj_findings.specs.Scenes.{Told}
+use Rattle.tj_texts.specs.WhyTexts.{fine_text, forest_text, told_text}
 
-module _ (s : Told) (lines found : List TraceLine) (o : Outcome) (cycles : List (List Link)) (f : Forest)
-    (marked : is_marked o ≡ true) (at : found ≡ lines) (same : cycles ≡ o.cycles)
-    (is : f ≡ forest_of s.places found cycles) where
+module _ (s : Told) (lines : List TraceLine) (o : Outcome) (cycles : List (List Link)) (f : Forest)
+    (marked : is_marked o ≡ true) (same : cycles ≡ o.cycles) (is : f ≡ forest_of s.places lines cycles) where
   -- the forest is that of the outcome
   its_forest : f ≡ forest_of s.places lines o.cycles
-  its_forest = is ∙ ap (λ z. forest_of s.places z cycles) at ∙ ap (forest_of s.places lines) same
+  its_forest = is ∙ ap (forest_of s.places lines) same
 
   -- in words
   pub words_told : (all : Bool) → forest_text s all f ≡ told_text s lines o all

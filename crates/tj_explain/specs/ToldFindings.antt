@@ -19,31 +19,28 @@ use Rattle.tj_syntax.specs.ScriptTexts.{IsScriptOf}
 use Rattle.tj_syntax.specs.Starts.{in_tasks}
 use Rattle.tj_syntax.specs.Trees.{Task}
 use Rattle.tj_trace.specs.MadeAt.{placed_program}
-use Rattle.tj_trace.specs.Logs.{logged_program}
 use Rattle.tj_trace.specs.TraceLaws.{script_program}
-use Rattle.tj_trace.specs.Traces.{AreTraced}
 use Rattle.tj_trace.specs.declared.line.Maker.{Maker}
-use Rattle.tj_trace.specs.declared.line.TraceLine.{TraceLine}
-use Rattle.tj_explain.specs.CellsTold.{IsCellToldRight, cells_in}
-use Rattle.tj_explain.specs.Consequences.{IsInOrder}
-use Rattle.tj_explain.specs.Explanations.{LeadsToToldCycle, OwnersAreNext, TellsEachOnce, cycles_in, told_waits_in}
-use Rattle.tj_explain.specs.Forests.{Forest, findings_in}
-use Rattle.tj_explain.specs.Origins.{BeginsEchoes, CameFrom}
-use Rattle.tj_explain.specs.Positions.{IsToldRight, tasks_in}
-use Rattle.tj_explain.specs.ReasonsTold.{IsToldWhy}
-use Rattle.tj_explain.specs.Scenes.{Told}
-use Rattle.tj_explain.specs.TasksTold.{IsOfHistory}
+use Rattle.tj_forest.specs.CellsTold.{IsCellToldRight, cells_in}
+use Rattle.tj_forest.specs.Consequences.{IsInOrder}
+use Rattle.tj_forest.specs.Explanations.{IsToldCycle, LeadsToToldCycle, TellsEachOnce, cycles_in, told_waits_in}
+use Rattle.tj_findings.specs.Forests.{Forest, findings_in}
+use Rattle.tj_forest.specs.Origins.{BeginsEchoes, CameFrom}
+use Rattle.tj_forest.specs.Positions.{IsToldRight, tasks_in}
+use Rattle.tj_forest.specs.ReasonsTold.{IsToldWhy}
+use Rattle.tj_findings.specs.Scenes.{Told}
+use Rattle.tj_forest.specs.TasksTold.{IsOfHistory}
 use Rattle.tj_explain.specs.WhyLine.{IsCommand}
 use Rattle.tj_explain.specs.WhyOutput.{IsOutput, scene_of}
-use Rattle.tj_explain.specs.JsonTexts.{forest_json}
+use Rattle.tj_json.specs.JsonTexts.{forest_json}
 use Rattle.tj_explain.specs.Tellings.{fine_told}
-use Rattle.tj_explain.specs.WentLaws.{WentThere}
-use Rattle.tj_explain.specs.WhyTexts.{forest_text}
-use Rattle.tj_explain.specs.declared.finding.Finding.{Finding}
-use Rattle.tj_explain.specs.declared.finding.Finding.TheVariants as finding
-use Rattle.tj_explain.specs.declared.finding.ToldCell.{ToldCell}
-use Rattle.tj_explain.specs.declared.finding.ToldTask.{ToldTask}
-use Rattle.tj_explain.specs.declared.finding.Wait.{Wait}
+use Rattle.tj_forest.specs.WentLaws.{WentThere}
+use Rattle.tj_texts.specs.WhyTexts.{forest_text}
+use Rattle.tj_findings.specs.declared.finding.Finding.{Finding}
+use Rattle.tj_findings.specs.declared.finding.Finding.TheVariants as finding
+use Rattle.tj_findings.specs.declared.finding.ToldCell.{ToldCell}
+use Rattle.tj_findings.specs.declared.finding.ToldTask.{ToldTask}
+use Rattle.tj_findings.specs.declared.finding.Wait.{Wait}
 use Rattle.tj_explain.specs.declared.line.WhyCommand.{WhyCommand}
 use Rattle.tj_explain.specs.declared.telling.Telling.{Telling}
 use Rattle.tj_explain.specs.declared.telling.Telling.TheVariants as telling
@@ -53,8 +50,8 @@ pub record Explains (script : List Task) (places : List PlacesOfTask) (strict : 
     (fs : List Finding) : Type 0 where
   -- each wait, each failure and each promise owed is told, and no other, each once
   pub each_once : TellsEachOnce (meaning (script_program strict root) N) fs
-  -- in a cycle each owner is the next member
-  pub owners : (waits : List Wait) → IsIn waits (flat_map cycles_in fs) → OwnersAreNext waits
+  -- a cycle has members, from the one with the least name on, and each owner is the next member
+  pub owners : (waits : List Wait) → IsIn waits (flat_map cycles_in fs) → IsToldCycle waits
   -- what a task waits for leads to a cycle that is told, and has the owner that is told
   pub leads : (w : Wait) → IsIn w (flat_map told_waits_in fs)
       → LeadsToToldCycle (meaning (script_program strict root) N) fs w.task.name
@@ -73,10 +70,9 @@ pub record Explains (script : List Task) (places : List PlacesOfTask) (strict : 
   -- each cell but the root's result has the statement that made it, with a position
   pub cells : (q : ToldCell) → IsIn q (flat_map cells_in fs)
       → IsCellToldRight script places (placed_program strict root) N q
-  -- where a promise went is told as the histories did it
-  pub went : (lines : List TraceLine) → AreTraced (logged_program strict root) N lines
-      → (t : ToldTask) (q : Name) (m : Option Maker) → IsIn (finding.Failed t (cause.Owner q) m) fs
-      → WentThere strict root N lines t q t.went
+  -- where a promise went is told as the histories did it, and the statements that are told have positions
+  pub went : (t : ToldTask) (q : Name) (m : Option Maker) → IsIn (finding.Failed t (cause.Owner q) m) fs
+      → WentThere strict root N places t q t.went
   -- each failure by `arith` or `kind` has a reason that is told
   pub reasons : (t : ToldTask) (c : Cause) (m : Option Maker) → IsIn (finding.Failed t c m) fs
       → IsToldWhy script t c

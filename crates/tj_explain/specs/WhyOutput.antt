@@ -22,10 +22,13 @@ use Rattle.tj_syntax.specs.Starts.{in_tasks}
 use Rattle.tj_syntax.specs.Trees.{Task}
 use Rattle.tj_trace.specs.Logs.{logged_program}
 use Rattle.tj_trace.specs.TraceLaws.{script_program}
+use Rattle.tj_trace.specs.MostMade.{IsMostMade}
 use Rattle.tj_trace.specs.Traces.{AreTraced}
 use Rattle.tj_trace.specs.declared.line.TraceLine.{TraceLine}
+use Rattle.tj_trace.specs.declared.most.Most.{Most}
+use Rattle.tj_faults.specs.Carets.{lines_of}
 use Rattle.tj_explain.specs.WhyLine.{HasNoForm, IsCommand}
-use Rattle.tj_explain.specs.Scenes.{Told, statements_of}
+use Rattle.tj_findings.specs.Scenes.{Told, statements_of}
 use Rattle.tj_explain.specs.Tellings.{fault_told, fine_told, full_told, why_text}
 use Rattle.tj_explain.specs.declared.telling.Telling.{Telling}
 use Rattle.tj_explain.specs.declared.telling.Telling.TheVariants as telling
@@ -54,16 +57,20 @@ scene_of command input script places =
       script = script;
       statements = statements_of script;
       places = places;
-      text = input;
+      lines = lines_of input;
       short = command.short;
     }
 
--- What is told of the run of a command's script with this root: that it needs more cells than the limit, or what the
--- text tells of its outcome, of its trace, and of the places of the script's parts.
+-- What is told of the run of a command's script with this root: that it needs more cells than the limit, and which
+-- statement made most of the first cells of the first round that has more, or what the text tells of its outcome, of
+-- its trace, and of the places of the script's parts.
 pub data IsToldRun (command : WhyCommand) (input : List ℕ) (script : List Task) (tokens : List Token)
     (root : PlacedState) : Status → List ℕ → Type 0 where
-  needs_more : IsFull (script_program command.limits.strict root) command.limits.cells
-      → IsToldRun command input script tokens root Full (full_told command.telling command.limits.cells)
+  needs_more : (most : Most) (places : List PlacesOfTask)
+      → IsFull (script_program command.limits.strict root) command.limits.cells
+      → IsMostMade (logged_program command.limits.strict root) command.limits.cells most → ArePlaces tokens places
+      → IsToldRun command input script tokens root Full
+      (full_told command.telling (scene_of command input script places) command.limits.cells most)
   was_fine : (outcome : Outcome) → ¬ IsFull (script_program command.limits.strict root) command.limits.cells
       → IsOutcome (meaning (script_program command.limits.strict root) command.limits.cells) outcome
       → tells_lines command.telling (is_marked outcome) ≡ false

@@ -2,17 +2,20 @@
 //! cells, and of one in which nothing went wrong.
 ghost use Rattle.std.specs.Prelude.{◌≡◌, IfOk};
 ghost use Rattle.tj_syntax.specs.ScriptTexts.{IsMemory};
+ghost use Rattle.tj_findings.specs.Scenes.{view};
 ghost use Rattle.tj_explain.specs.Tellings as spec;
 
-use crate::json::{fine_json, full_json};
+use crate::full_lines::{full_json, full_text};
 use crate::telling::Telling;
-use crate::why_lines::fine_text;
 use std::alloc::Global;
 use tj_base::Oom;
-use tj_command::full_line;
 use tj_faults::{fault_json, told_fault_text};
+use tj_findings::Scene;
+use tj_json::fine_json;
 use tj_lex::Token;
 use tj_syntax::NoScript;
+use tj_texts::fine_text;
+use tj_trace::Most;
 
 /// Whether it is told as objects of JSON.
 fn is_json(telling: Telling) -> bool
@@ -32,14 +35,15 @@ pub fn fine_told(alloc: Global, telling: Telling, count: usize) -> Result<Vec<u8
     }
 }
 
-/// What is told of a run that needs more cells than these.
-pub fn full_told(alloc: Global, telling: Telling, cells: u32) -> Result<Vec<u8>, Oom>
-    ensures { IfOk result (λ text. text.items ≡ spec.full_told telling cells) }
+/// What is told of a run that needs more cells than these, where this statement made most.
+pub fn full_told(scene: &Scene, telling: Telling, cells: u32, most: Most) -> Result<Vec<u8>, Oom>
+    ensures { IfOk result (λ text.
+        text.items ≡ spec.full_told telling (view scene.now) cells most) }
 {
     if is_json(telling) {
-        full_json(alloc, cells)
+        full_json(scene, cells, most)
     } else {
-        full_line(alloc, cells)
+        full_text(scene, cells, most)
     }
 }
 

@@ -19,19 +19,19 @@ ghost use Rattle.tj_explain.specs.WhyOutput.{IsCommandOutput, IsToldRun};
 use crate::line::WhyCommand;
 use crate::parsed::parsed;
 use crate::replies::{fault_told, fine_told, full_told};
-use crate::scene::Scene;
-use crate::statements::statements_of;
 use crate::telling::Telling;
 use crate::why::why_text;
 use std::alloc::Global;
 use tj_base::Oom;
 use tj_command::{Limits, Output, Status, status_of};
 use tj_eval::{PlacedBody, Sizes, main_body, placed_main};
+use tj_faults::lines_of;
+use tj_findings::{Scene, statements_of};
 use tj_lex::{Token, tokens};
 use tj_mean::{Outcome, PlanFault, marked, plan};
 use tj_ports::ReadEnd;
 use tj_syntax::{NoScript, Script, places, position_behind};
-use tj_trace::trace;
+use tj_trace::{most_made, trace};
 
 /// What is told of an input, where this was read of it.
 pub fn told_of(alloc: Global, command: WhyCommand, input: &ReadEnd) -> Result<Output, Oom>
@@ -126,12 +126,47 @@ fn told_script(
     let root = placed_main(alloc, script, &sizes, steps)?;
     match plan(alloc, &main_body(alloc, script, steps)?, cells, strict) {
         Ok(outcome) => told_outcome(alloc, command, text, tokens, script, &root, &outcome),
-        Err(PlanFault::Full) => Ok(Output {
-            status: Status::Full,
-            text: full_told(alloc, command.telling, cells)?,
-        }),
+        Err(PlanFault::Full) => told_full(alloc, command, text, tokens, script, &root),
         Err(PlanFault::Oom) => Err(Oom),
     }
+}
+
+// What is told of the run with this root, which needs more cells than the limit.
+fn told_full(
+    alloc: Global,
+    command: WhyCommand,
+    text: &[u8],
+    tokens: &[Token],
+    script: &Script,
+    root: &PlacedBody,
+) -> Result<Output, Oom>
+    requires limits { AreLimits command.limits }
+    requires root { IsFresh placed_places placed_awaits placed_left 1 root.now }
+    requires full { IsFull (script_program command.limits.strict root.now) command.limits.cells }
+    ensures { IfOk result (λ output. IsToldRun command text.now (view.script script.now) tokens.now
+        root.now output.status output.text.items) }
+{
+    let Limits { cells, strict, .. } = command.limits;
+    // The run with stands is full where the one without them was.
+    let found = most_made(alloc, root, cells, strict)?;
+    let Some(most) = found else {
+        return Err(Oom);
+    };
+    let places = places(alloc, tokens)?;
+    let statements = statements_of(alloc, script)?;
+    let source = lines_of(alloc, text)?;
+    let scene = Scene {
+        alloc,
+        script,
+        statements: statements.as_slice(),
+        places: &places,
+        lines: source.as_slice(),
+        short: command.short,
+    };
+    Ok(Output {
+        status: Status::Full,
+        text: full_told(&scene, command.telling, cells, most)?,
+    })
 }
 
 // What is told of an outcome of the run with this root. One that isn't marked has a trace for a
@@ -209,12 +244,13 @@ fn told_traced(
     };
     let places = places(alloc, tokens)?;
     let statements = statements_of(alloc, script)?;
+    let source = lines_of(alloc, text)?;
     let scene = Scene {
         alloc,
         script,
         statements: statements.as_slice(),
         places: &places,
-        text,
+        lines: source.as_slice(),
         short: command.short,
     };
     Ok(Output {

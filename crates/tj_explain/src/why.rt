@@ -2,23 +2,18 @@
 ghost use Rattle.std.specs.Prelude.{◌≡◌, IfOk};
 ghost use Rattle.tj_mean.specs.Outcomes.{Ascend};
 ghost use Rattle.tj_trace.specs.Traces.{names_of};
-ghost use Rattle.tj_explain.specs.DotTexts as dots;
-ghost use Rattle.tj_explain.specs.JsonTexts as json;
-ghost use Rattle.tj_explain.specs.Scenes.{view};
+ghost use Rattle.tj_json.specs.JsonTexts as json;
+ghost use Rattle.tj_findings.specs.Scenes.{view};
 ghost use Rattle.tj_explain.specs.Tellings as tellings;
-ghost use Rattle.tj_explain.specs.WhyTexts as spec;
+ghost use Rattle.tj_texts.specs.WhyTexts as spec;
 
-use crate::consequences::forest_of;
-use crate::dot::dot_text;
-use crate::forest_json::forest_json;
-use crate::json::fine_json;
-use crate::members::members_of;
-use crate::owners::lookups_of;
-use crate::scene::Scene;
 use crate::telling::Telling;
-use crate::why_lines::{fine_text, forest_text};
 use tj_base::Oom;
-use tj_mean::{LinkList, Outcome, marked};
+use tj_findings::Scene;
+use tj_forest::{forest_of_run, picture};
+use tj_json::{fine_json, forest_json};
+use tj_mean::{Outcome, marked};
+use tj_texts::{fine_text, forest_text};
 use tj_trace::TraceLine;
 
 /// What is told of the outcome of a script's run, with these lines of a trace.
@@ -54,8 +49,7 @@ fn told_text(
     if !marked(outcome) {
         return fine_text(scene.alloc, lines.len());
     }
-    let lookups = lookups_of(scene.alloc, lines)?;
-    let forest = forest_of(scene, lookups, outcome.cycles.items())?;
+    let forest = forest_of_run(scene, lines, outcome.cycles.items())?;
     forest_text(scene, all, &forest)
 }
 
@@ -68,18 +62,6 @@ fn told_json(scene: &Scene, lines: &[TraceLine], outcome: &Outcome) -> Result<Ve
     if !marked(outcome) {
         return fine_json(scene.alloc, lines.len());
     }
-    let lookups = lookups_of(scene.alloc, lines)?;
-    let forest = forest_of(scene, lookups, outcome.cycles.items())?;
+    let forest = forest_of_run(scene, lines, outcome.cycles.items())?;
     forest_json(scene, &forest)
-}
-
-/// The picture.
-fn picture(scene: &Scene, lines: &[TraceLine], cycles: &[LinkList]) -> Result<Vec<u8>, Oom>
-    requires { Ascend (names_of lines.now) }
-    ensures { IfOk result (λ text.
-        text.items ≡ dots.dot_text (view scene.now) lines.now cycles.now) }
-{
-    let lookups = lookups_of(scene.alloc, lines)?;
-    let members = members_of(scene.alloc, cycles)?;
-    dot_text(scene, &lookups, &members)
 }

@@ -1,2 +1,3 @@
 pub mod LinesMore
 pub mod JoinedTexts
+pub mod SourceLines

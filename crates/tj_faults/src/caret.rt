@@ -42,7 +42,7 @@ fn behind_lines(text: &[u8], count: usize) -> &[u8]
 }
 
 /// How many bytes stand in front of the first line feed.
-fn line_len(text: &[u8]) -> usize
+pub fn line_len(text: &[u8]) -> usize
     ensures count { result ≡ prefix_len stays_on_line text.now }
     ensures bound { result ≤ length text.now }
 {
@@ -61,6 +61,7 @@ pub fn front(line: &[u8], count: usize) -> &[u8]
 }
 
 /// The line of a text that has this number.
+#[tactic(auto, using(crate::proofs::SourceLines::line_is))]
 pub fn line_at(text: &[u8], number: u32) -> &[u8]
     ensures { result.now ≡ spec.line_at number text.now }
 {
@@ -86,21 +87,20 @@ fn blanks(alloc: Global, front: &[u8]) -> Result<Vec<u8>, Oom>
     Ok(text)
 }
 
-/// The line of a text that has a position, and a caret below that position.
-fn caret_text(alloc: Global, text: &[u8], at: Place) -> Result<Vec<u8>, Oom>
-    ensures { IfOk result (λ told. told.items ≡ spec.caret_text text.now at) }
+/// A line, and a caret below this column.
+pub fn caret_below(alloc: Global, line: &[u8], column: u32) -> Result<Vec<u8>, Oom>
+    ensures { IfOk result (λ told. told.items ≡ spec.caret_below line.now column) }
 {
-    let line = line_at(text, at.line);
-    let blanks = blanks(alloc, front(line, at.column.saturating_sub(1) as usize))?;
+    let blanks = blanks(alloc, front(line, column.saturating_sub(1) as usize))?;
     joined(alloc, &[line, b"\n", blanks.as_slice(), b"^\n"])
 }
 
-/// The same where there is a position.
-pub fn caret_at(alloc: Global, text: &[u8], at: Option<Place>) -> Result<Vec<u8>, Oom>
-    ensures { IfOk result (λ told. told.items ≡ spec.caret_at text.now at) }
+/// The line of a text that has a position, and a caret below that position, where there is one.
+fn caret_at(alloc: Global, text: &[u8], at: Option<Place>) -> Result<Vec<u8>, Oom>
+    ensures { IfOk result (λ told. told.items ≡ spec.caret_in (spec.lines_of text.now) at) }
 {
     match at {
-        Some(at) => caret_text(alloc, text, at),
+        Some(at) => caret_below(alloc, line_at(text, at.line), at.column),
         None => Ok(Vec::new(alloc)),
     }
 }

@@ -7,11 +7,12 @@ mod fault_objects;
 mod fault_words;
 mod fronts;
 mod objects;
+mod source_lines;
 mod texts;
 mod wanted;
 
-pub use caret::caret_at;
 pub use fault_objects::fault_json;
 pub use fault_words::told_fault_text;
 pub use objects::{begin_object, quoted};
+pub use source_lines::{caret_in, lines_of};
 pub use texts::{joined, place_text};

@@ -7,6 +7,8 @@ mod channels;
 #[cfg(test)]
 mod fork_trees;
 #[cfg(test)]
+mod full_rounds;
+#[cfg(test)]
 mod generated_texts;
 #[cfg(test)]
 mod made_cells;

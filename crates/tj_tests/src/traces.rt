@@ -210,7 +210,7 @@ fn is_found(rt: &impl Abort, alloc: Global, lines: &[TraceLine], thing: &Thing) 
 }
 
 /// The script that the text is.
-fn script(rt: &impl Abort, alloc: Global, text: &str) -> Script
+pub(crate) fn script(rt: &impl Abort, alloc: Global, text: &str) -> Script
     ensures { (tokens : List Tok) × IsScript tokens (view.script result) }
 {
     match script_in(alloc, text.as_bytes()) {

@@ -17,3 +17,11 @@ pub mod PromisePlaces
 pub mod SetsThere
 pub mod HandsThere
 pub mod LineParts
+pub mod MostSeen
+pub mod MadeRounds
+pub mod FoundTasks
+pub mod MostFound
+pub mod OneMost
+pub mod MostTold
+pub mod MostPlaced
+pub mod RightSets

@@ -10,7 +10,7 @@ use Rattle.tj_trace.proofs.SetsThere.{place, sets_at, sets_of_point}
 use Rattle.tj_body.specs.declared.point.PointStage.TheVariants as stage
 
 -- what a task that has stopped has set
-sets_of_ended : (z : PointStage) (e : Ending) (x : Logged) → ending_of z ≡ Some e → x.sets ≡ sets_at z x
+pub sets_of_ended : (z : PointStage) (e : Ending) (x : Logged) → ending_of z ≡ Some e → x.sets ≡ sets_at z x
 sets_of_ended (stage.Answered a) e x h = absurd (not_none e h)
 sets_of_ended z e x h = refl
 

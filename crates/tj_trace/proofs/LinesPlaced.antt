@@ -31,4 +31,5 @@ lines_have_places strict root N lines right traced tokens notes derived l i =
     let script = root.task.script in (
       end_placed tokens notes script derived l.decl l.at l.line.ending h.stands,
       λ m j. let k = h.makers m j in statement_placed tokens notes script derived m.decl m.at k.statement k.is_at,
+      λ n j. let k = h.sets n j in statement_placed tokens notes script derived l.decl n.at k.statement k.is_at,
     )

@@ -14,17 +14,24 @@ use Rattle.tj_base.proofs.ChildNames.{child_some, child_same}
 use Rattle.tj_body.specs.Names.{same}
 use Rattle.tj_body.specs.Rounds.{family, given, tasks, last_round}
 use Rattle.tj_body.proofs.Counts.{same_self}
-use Rattle.tj_body.proofs.Lists.{in_begins, to_map, in_flat_map, from_flat_map}
+use Rattle.tj_body.proofs.Lists.{in_begins, in_map, to_map, in_flat_map, from_flat_map}
 use Rattle.tj_body.proofs.Rounds.Families.{same_name}
 use Rattle.tj_body.proofs.Rounds.Rises.{grown, within as rounds_within}
 use Rattle.tj_eval.specs.Stands.{PlacedState, StandsRight}
 use Rattle.tj_mean.specs.Outcomes.{Ascend, ending_of, shown_of}
 use Rattle.tj_trace.specs.Lookups.{made_by}
-use Rattle.tj_trace.specs.RightLines.{StandsWhere, IsMadeIn, IsRightLine, IsForkOf, LinesAreRight, LinesAreForked}
+use Rattle.tj_trace.specs.RightLines.{StandsWhere, IsMadeIn, IsRightLine, IsForkOf, IsSetIn}
+use Rattle.tj_trace.specs.RightLines.{LinesAreRight, LinesAreForked}
+use Rattle.tj_trace.specs.Traces.{set_of}
+use Rattle.tj_trace.specs.declared.line.SetNote.{SetNote}
+use Rattle.tj_trace.specs.declared.logged.PlaceSet.{PlaceSet}
 use Rattle.tj_trace.proofs.Noted.{notes_at}
 use Rattle.tj_trace.proofs.HasLines.{not_none, some_is, line_is, notes_of_ended, HasLine, of_line, to_line, line_name}
 use Rattle.tj_trace.proofs.HasLines.{line_makers, line_stand}
+use Rattle.tj_trace.proofs.LineParts.{sets_of_ended}
 use Rattle.tj_trace.proofs.RightPoints.{IsNew, IsRightStage, IsRightPoint, right_history}
+use Rattle.tj_trace.proofs.RightSets.{AreSets, right_sets}
+use Rattle.tj_trace.proofs.SetsThere.{sets_of_point}
 use Rattle.tj_base.specs.declared.cell.Sort.TheVariants as sort
 use Rattle.tj_body.specs.declared.point.Close.TheVariants as close
 use Rattle.tj_body.specs.declared.point.PointStage.TheVariants as stage
@@ -61,13 +68,15 @@ module _ (script : List tree.Task) (d : ℕ) (task : tree.Task) (declared : slic
       ))
 
   -- the line of a point that is right
-  right_line : (p : Point Logged) (l : TraceLine) → IsRightPoint script d (within task.body) p → line_of p ≡ Some l
-      → IsRightLine script l
-  right_line p l r e =
+  right_line : (p : Point Logged) (l : TraceLine) → IsRightPoint script d (within task.body) p
+      → AreSets (within task.body) (sets_of_point p) → line_of p ≡ Some l → IsRightLine script l
+  right_line p l r s e =
       let k = line_is p l e in
       subst (IsRightLine script) k.2 (record {
         stands = stands_where p.stage k.0 p.body.placed r.run.decl k.1 r.stage;
         makers = λ m i. one m (subst (IsIn m) (sym (notes_of_ended p.stage k.0 p.body k.1)) i);
+        sets = λ n i. let f = in_map (set_of p.name p.references) n p.body.sets i in
+            set n f.0 f.2 (subst (IsIn f.0) (sets_of_ended p.stage k.0 p.body k.1) f.1);
       }) where
         one : (m : Maker) → IsIn m (notes_at p.stage p.body) → IsMadeIn script p.body.placed.stand.decl m
         one m i = let n = r.notes.right m i in record {
@@ -79,6 +88,18 @@ module _ (script : List tree.Task) (d : ℕ) (task : tree.Task) (declared : slic
             is_there = n.1.1;
           };
           makes = n.1.2;
+        }
+
+        set : (n : SetNote) (m : PlaceSet) → n ≡ set_of p.name p.references m → IsIn m (sets_of_point p)
+            → IsSetIn script p.body.placed.stand.decl n
+        set n m same i = let k = s m i in record {
+          statement = k.0;
+          is_at = record {
+            task = task;
+            is_declared = ap (slice_get script) r.run.decl ∙ declared;
+            is_there = ap (λ (z : SetNote). slice_get (within task.body) z.at) same ∙ k.1;
+          };
+          sets = k.2;
         }
 
 module _ (strict : Bool) where
@@ -143,10 +164,10 @@ module _ (strict : Bool) (root : PlacedState) (N : ℕ) (right : StandsRight roo
   abbrev first : Task Logged
   first = root_task (logged root)
 
-  task_new : (n : ℕ) (t : Task Logged) → IsIn t (tasks (logged_program strict root) n) → IsNew root.task.script t
+  pub task_new : (n : ℕ) (t : Task Logged) → IsIn t (tasks (logged_program strict root) n) → IsNew root.task.script t
   task_new zero t i = absurd i
   task_new (suc n) t i = family_new strict root.task.script (given (logged_program strict root) n) (suc n) first
-      (record { right = right; same = refl; fresh = refl }) t i
+      (record { right = right; same = refl; fresh = refl; unset = refl }) t i
 
   task_forked : (n : ℕ) (t : Task Logged) → IsIn t (tasks (logged_program strict root) n)
       → (t ≡ first) ⊎ ((m : Task Logged) × IsIn m (tasks (logged_program strict root) n)
@@ -177,7 +198,8 @@ module _ (strict : Bool) (root : PlacedState) (N : ℕ) (right : StandsRight roo
         let n = task_new (last_round N) k.0 k.1.there in
         right_line root.task.script k.0.body.placed.stand.decl n.right.task
         (ap (λ s. slice_get s k.0.body.placed.stand.decl) (sym n.same) ∙ n.right.is_declared)
-        (history (rules strict) V k.0) l (right_history root.task.script strict V k.0 n) k.1.is
+        (history (rules strict) V k.0) l (right_history root.task.script strict V k.0 n)
+        (right_sets root.task.script strict V k.0 n) k.1.is
 
     line_decl : (t : Task Logged) (l : TraceLine) → Line t l → l.decl ≡ t.body.placed.stand.decl
     line_decl t l h = (line_stand strict root N t l h).0

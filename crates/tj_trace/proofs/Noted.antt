@@ -73,8 +73,8 @@ notes_at (stage.Waits q spare) x = x.makers
 notes_at (stage.Closed e) x = x.makers
 
 -- what a task made until it came to a point is what it notes, and its children have asked nothing
-record IsWhole (p : Point Logged) : Type 0 where
-  made : AreNoted p.name (notes_at p.stage p.body) p.made p.promises p.children
+pub record IsWhole (p : Point Logged) : Type 0 where
+  pub made : AreNoted p.name (notes_at p.stage p.body) p.made p.promises p.children
   children : AreFresh p.children
 
 -- the same of a task that has taken its answer
@@ -211,7 +211,8 @@ module _ (strict : Bool) where
   point_noted V t e (suc k) =
       let p = point_after (rules strict) V k t in stage_noted V p.stage p refl (point_noted V t e k)
 
-  history_noted : (V : Assignment) (t : Task Logged) → IsLogged t → IsWhole (history (rules strict) V t)
+  -- so it is of a history
+  pub history_noted : (V : Assignment) (t : Task Logged) → IsLogged t → IsWhole (history (rules strict) V t)
   history_noted V t e = point_noted V t e (2 * suc (logged_left t.body))
 
   each_fresh : (V : Assignment) (d : ℕ)

@@ -39,6 +39,7 @@ pub record IsNew (script : List tree.Task) (t : Task Logged) : Type 0 where
   pub right : StandsRight t.body.placed
   pub same : t.body.placed.task.script ≡ script
   pub fresh : t.body.makers ≡ []
+  pub unset : t.body.sets ≡ []
 
 -- the first answer fails no task
 begins : (t : TaskState) (d : Due) (fault : Trouble) → answered t d answer.Start ≡ Err fault → ⊥
@@ -234,6 +235,7 @@ module _ (script : List tree.Task) (d : ℕ) (all : List Statement) where
         };
         same = h.2;
         fresh = refl;
+        unset = refl;
       }
 
   -- a task more, unless the fork is refused
@@ -362,7 +364,7 @@ module _ (script : List tree.Task) (d : ℕ) (all : List Statement) where
     right_step V (stage.Waits x spare) p e h = right_look spare x (V x) p e h
     right_step V (stage.Closed c) p e h = h
 
-    right_point : (V : Assignment) (t : Task Logged) → IsRun t.body.placed → t.body.makers ≡ [] → (k : ℕ)
+    pub right_point : (V : Assignment) (t : Task Logged) → IsRun t.body.placed → t.body.makers ≡ [] → (k : ℕ)
         → IsRightPoint (point_after (rules strict) V k t)
     right_point V t r e zero = record {
       run = r;

@@ -9,3 +9,7 @@ pub mod SpotLaws
 pub mod MadeAt
 pub mod OneOwners
 pub mod HandLaws
+pub mod MostOf
+pub mod MadeCells
+pub mod MostMade
+pub mod MostLaws

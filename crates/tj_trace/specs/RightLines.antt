@@ -21,6 +21,7 @@ use Rattle.tj_trace.specs.Logs.{logged_program}
 use Rattle.tj_trace.specs.Lookups.{made_by}
 use Rattle.tj_trace.specs.Traces.{AreTraced}
 use Rattle.tj_trace.specs.declared.line.Maker.{Maker}
+use Rattle.tj_trace.specs.declared.line.SetNote.{SetNote}
 use Rattle.tj_trace.specs.declared.line.TraceLine.{TraceLine}
 
 -- this is the statement with this number of a declaration of the script
@@ -111,10 +112,17 @@ pub record IsMadeIn (script : List Task) (decl : ℕ) (maker : Maker) : Type 0 w
   pub is_at : IsStatementAt script maker.decl maker.at statement
   pub makes : Makes maker.sort (own_ask statement)
 
+-- the note tells a statement of the task's own declaration that sets a promise
+pub record IsSetIn (script : List Task) (decl : ℕ) (n : SetNote) : Type 0 where
+  pub statement : Statement
+  pub is_at : IsStatementAt script decl n.at statement
+  pub sets : IsSet statement
+
 -- the numbers of a line are right
 pub record IsRightLine (script : List Task) (l : TraceLine) : Type 0 where
   pub stands : StandsWhere script l.decl l.at l.line.ending
   pub makers : (maker : Maker) → IsIn maker l.makers → IsMadeIn script l.decl maker
+  pub sets : (n : SetNote) → IsIn n l.sets → IsSetIn script l.decl n
 
 -- what is found as a task's maker is a fork of the declaration that the task runs
 pub record IsForkOf (script : List Task) (decl : ℕ) (found : Option Maker) : Type 0 where

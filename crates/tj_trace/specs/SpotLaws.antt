@@ -17,6 +17,7 @@ use Rattle.tj_trace.specs.Lookups.{spot_of, ask_spot_of}
 use Rattle.tj_trace.specs.RightLines.{IsStatementAt, IsBraceAt}
 use Rattle.tj_trace.specs.Traces.{AreTraced}
 use Rattle.tj_trace.specs.declared.line.Maker.{Maker}
+use Rattle.tj_trace.specs.declared.line.SetNote.{SetNote}
 use Rattle.tj_trace.specs.declared.line.TraceLine.{TraceLine}
 
 -- the declaration's start, and the statement's with this number, at which it stands with its ask; both have the
@@ -59,3 +60,4 @@ LinesHavePlaces strict root = (N : ℕ) (lines : List TraceLine) → StandsRight
     → let places = places_of tokens (in_tasks derived 0) in
     (l : TraceLine) → IsIn l lines → HasPlace places l.decl l.at
     × ((maker : Maker) → IsIn maker l.makers → HasPlace places maker.decl maker.at)
+    × ((n : SetNote) → IsIn n l.sets → HasPlace places l.decl n.at)

@@ -3,6 +3,7 @@ ghost use Rattle.std.specs.Prelude.{Bool};
 ghost use Rattle.tj_eval.specs.Stands.{PlacedState};
 ghost use Rattle.tj_trace.specs.HandLaws.{HandsAreWhole};
 ghost use Rattle.tj_trace.specs.MadeAt.{LinesAreOfStands};
+ghost use Rattle.tj_trace.specs.MostLaws.{MostHasAPlace};
 ghost use Rattle.tj_trace.specs.NoteLaws.{NotesAreWhole};
 ghost use Rattle.tj_trace.specs.OneOwners.{OwnersAreOne};
 ghost use Rattle.tj_trace.specs.RightLines.{LinesAreForked, LinesAreRight};
@@ -30,13 +31,13 @@ pub fn notes_are_whole()
     ensures { (strict : Bool) (root : PlacedState) → NotesAreWhole strict root }
 {}
 
-/// A line tells statements of the declaration that its task runs: where it stands, and what made
-/// each thing.
+/// A line tells statements of the declaration that its task runs: where it stands, what made each
+/// thing, and what set each promise.
 pub fn lines_are_right()
     // Law: if the root stands right, each line tells the script's statements: it waits at a `get`
     // or a `join`; it ended at a `return`, or with 0 at the closing brace; it failed at a statement
-    // that can fail so; and what made a promise is a `new` of the declaration that the task runs,
-    // what made a task a `fork` there.
+    // that can fail so; what made a promise is a `new` of the declaration that the task runs, what
+    // made a task a `fork` there; and what set a promise is a `set` there.
     ensures { (strict : Bool) (root : PlacedState) → LinesAreRight strict root }
 {}
 
@@ -84,4 +85,11 @@ pub fn hands_are_whole()
     // Law: what a line tells as handed on, and to which of the things that its task made, is each
     // promise that each child of the task's history was handed, in the order of the forks.
     ensures { (strict : Bool) (root : PlacedState) → HandsAreWhole strict root }
+{}
+
+/// The statement that `most_made` tells has a position in the script.
+pub fn most_has_a_place()
+    // Law: if the root stands right, the statement that made most has a position among those of
+    // the same script.
+    ensures { (strict : Bool) (root : PlacedState) → MostHasAPlace strict root }
 {}

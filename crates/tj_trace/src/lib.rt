@@ -14,3 +14,10 @@ pub use line::{
 };
 pub use lookup::{ask_spot, line_of, maker_of, owner_of, spot};
 pub use traced::trace;
+
+mod found;
+mod full;
+mod most;
+
+pub use full::most_made;
+pub use most::Most;

@@ -4,8 +4,9 @@ use Rattle.tj_syntax.specs.PlacesOf as places
 use Rattle.tj_syntax.specs.View as view
 use Rattle.tj_trace.specs.Logs.{logged_program}
 use Rattle.tj_trace.specs.Traces.{AreTraced}
+use Rattle.tj_faults.specs.Carets.{lines_of}
 use Rattle.tj_explain.proofs.ToldInputs.{ended_told}
-use Rattle.tj_explain.specs.Scenes.{statements_of, view_table}
+use Rattle.tj_findings.specs.Scenes.{statements_of, view_table}
 use Rattle.tj_explain.proofs.told.told_traced.Goals as goal
 
 -- the lines of a trace are in name order
@@ -25,8 +26,10 @@ returns c =
     let same = c.as_slice.ensures.value in
     let made = c.in_ok-statements.ensures in
     let listed : table ≡ statements_of (view.script c.args.script.now) = cc in
+    let source = map (λ l. l.now) c.as_slice-2.result.now in
+    let split : source ≡ lines_of c.args.text.now =
+    ap (map (λ l. l.now)) c.as_slice-2.ensures.value ∙ c.in_ok-source.ensures in
     ended_told c.args.command c.args.text.now (view.script c.args.script.now) c.args.tokens.now c.args.root.now
-    c.args.outcome.now
-    c.items.result.now table (places.view c.in_ok-places.places) c.status_of.result c.in_ok-why_text.field-0.items
-    c.requires.fits c.requires.outcome traced listed c.in_ok-places.ensures
+    c.args.outcome.now c.items.result.now table source (places.view c.in_ok-places.places) c.status_of.result
+    c.in_ok-why_text.field-0.items c.requires.fits c.requires.outcome traced listed split c.in_ok-places.ensures
     (c.status_of.ensures ∙ ap status_of c.marked.ensures) c.in_ok-why_text.ensures

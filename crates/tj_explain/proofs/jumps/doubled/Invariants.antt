@@ -1,7 +1,0 @@
-use Rattle.std.proofs.Common.{◌≡◌, map, take}
-use Rattle.tj_explain.specs.Inner.Jumps.{jump}
-use Rattle.tj_explain.proofs.jumps.doubled.Given as goal
-
--- the jumps so far
-abbrev pub invariant-loop-to : goal.invariant-loop-to
-invariant-loop-to l = l.more.items ≡ map (jump l.jumps) (take l.to-index l.jumps)

@@ -1,5 +1,0 @@
-use Rattle.tj_explain.proofs.CellsTold.{cells_are_told_right}
-use Rattle.tj_explain.proofs.laws.cells_are_told_right.Goals as goal
-
-pub returns : goal.returns
-returns c = cells_are_told_right

@@ -1,5 +1,0 @@
-use Rattle.tj_explain.proofs.Origins.{name_earlier_cells}
-use Rattle.tj_explain.proofs.laws.echoes_name_earlier_cells.Goals as goal
-
-pub returns : goal.returns
-returns c = name_earlier_cells

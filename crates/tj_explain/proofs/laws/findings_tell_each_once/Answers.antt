@@ -1,5 +1,0 @@
-use Rattle.tj_explain.proofs.ToldOnce.{tells_each_once}
-use Rattle.tj_explain.proofs.laws.findings_tell_each_once.Goals as goal
-
-pub returns : goal.returns
-returns c = λ strict root N lines o traced out. tells_each_once strict root N lines o traced out

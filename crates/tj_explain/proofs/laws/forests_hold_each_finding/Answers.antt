@@ -1,5 +1,0 @@
-use Rattle.tj_explain.proofs.Forests.{holds_each}
-use Rattle.tj_explain.proofs.laws.forests_hold_each_finding.Goals as goal
-
-pub returns : goal.returns
-returns c = holds_each

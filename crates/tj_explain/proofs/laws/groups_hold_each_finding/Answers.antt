@@ -1,5 +1,0 @@
-use Rattle.tj_explain.proofs.FindingsGrouped.{groups_hold_each}
-use Rattle.tj_explain.proofs.laws.groups_hold_each_finding.Goals as goal
-
-pub returns : goal.returns
-returns c = groups_hold_each

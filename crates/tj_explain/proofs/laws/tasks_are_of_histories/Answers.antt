@@ -1,5 +1,0 @@
-use Rattle.tj_explain.proofs.TasksTold.{tasks_are_of_histories}
-use Rattle.tj_explain.proofs.laws.tasks_are_of_histories.Goals as goal
-
-pub returns : goal.returns
-returns c = tasks_are_of_histories

@@ -1,5 +1,0 @@
-use Rattle.tj_explain.proofs.Placed.{tasks_are_told_right}
-use Rattle.tj_explain.proofs.laws.tasks_are_told_right.Goals as goal
-
-pub returns : goal.returns
-returns c = tasks_are_told_right

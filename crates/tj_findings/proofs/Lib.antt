@@ -1,0 +1,4 @@
+pub mod Steps
+pub mod PutBelow
+mod TableRows
+mod ChildNames

@@ -1,0 +1,12 @@
+pub mod Scenes
+pub mod Echoes
+pub mod Searches
+pub mod Findings
+pub mod Went
+pub mod Arguments
+pub mod Onward
+pub mod Forests
+pub mod Groups
+pub mod LetNames
+pub mod ReasonTexts
+pub mod PartTexts

@@ -1,0 +1,12 @@
+use Rattle.std.proofs.Common.{subst, sym}
+use Rattle.std.proofs.lemmas.Result.{IfOk-weaker}
+use Rattle.tj_forest.specs.Inner.Numbers.{AreSteps}
+use Rattle.tj_forest.specs.Inner.Ways.{next}
+use Rattle.tj_forest.proofs.chains.jumps_of.Goals as goal
+
+pub returns : goal.returns
+returns c =
+    let lines = c.args.lookups.now.lines.now in
+    let f = next c.args.way lines in
+    IfOk-weaker c.jumps_by.result _ _ (λ jumps all. all lines f
+    (subst (AreSteps lines f) (sym c.as_slice.ensures.value) c.in_ok-steps.ensures)) c.jumps_by.ensures

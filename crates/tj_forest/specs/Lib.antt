@@ -1,0 +1,11 @@
+pub mod DotTexts
+pub mod Inner
+pub mod Explanations
+pub mod Positions
+pub mod Origins
+pub mod CellsTold
+pub mod TasksTold
+pub mod Consequences
+pub mod WentLaws
+pub mod ReasonsTold
+pub mod TwiceHanded

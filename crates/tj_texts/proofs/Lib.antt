@@ -1,0 +1,4 @@
+pub mod Refs
+mod SeveralTold
+mod PutGrouped
+pub mod GroupKeys

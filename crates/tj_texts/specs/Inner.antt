@@ -1,0 +1,3 @@
+-- What only the functions inside the crate speak of. No public clause does.
+pub mod GroupViews
+pub mod GroupKeys

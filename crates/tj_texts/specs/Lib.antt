@@ -1,0 +1,3 @@
+pub mod WhyTexts
+pub mod Inner
+pub mod WentTexts

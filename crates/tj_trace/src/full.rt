@@ -1,0 +1,132 @@
+//! The statement that made most of the cells where a program needs more than the limit: the first
+//! round that has more is gone through once more, in name order, until there are so many.
+ghost use Rattle.std.specs.Prelude.{ℕ, ◌≡◌, ◌<◌, ◌≤◌, suc, take, IfNone, IfOk, IfSome};
+ghost use Rattle.tj_base.specs.declared.cell.TheConstants.{MAX_CELLS};
+ghost use Rattle.tj_body.specs.Asks.{IsFresh};
+ghost use Rattle.tj_body.specs.Points.{IsProper};
+ghost use Rattle.tj_body.specs.Programs.{program_of, rules_of};
+ghost use Rattle.tj_body.specs.Rounds as rounds;
+ghost use Rattle.tj_eval.specs.Stands.{placed_awaits, placed_left, placed_places};
+ghost use Rattle.tj_mean.specs.Inner.Assignments.{assignment_in};
+ghost use Rattle.tj_trace.specs.Logs.{logged, logged_asks, logged_awaits, logged_left};
+ghost use Rattle.tj_trace.specs.Logs.{logged_places, logged_program, logged_then};
+ghost use Rattle.tj_trace.specs.Inner.RoundMakers.{IsTaken, round_makers};
+ghost use Rattle.tj_trace.specs.MostMade.{IsMostMade};
+
+use crate::found::{Found, follow};
+use crate::line::Maker;
+use crate::logged::LoggedBody;
+use crate::most::{Most, most_of};
+use std::alloc::Global;
+use tj_base::Oom;
+use tj_body::{Body, Entry, Point, Task};
+use tj_eval::PlacedBody;
+use tj_mean::{FullRound, NameMap, first_full, history, root_task};
+
+/// The statement that made most of the first cells of the first round that has more than `cells`
+/// cells.
+pub fn most_made(
+    alloc: Global,
+    root: &PlacedBody,
+    cells: u32,
+    strict: bool,
+) -> Result<Option<Most>, Oom>
+    requires root { IsFresh placed_places placed_awaits placed_left 1 root.now }
+    requires cells { (0 < cells) × (cells ≤ MAX_CELLS) }
+
+    // What is found is the statement that made most of the first cells of that round, one more than
+    // `cells`, tasks taken in name order, and the first in the script of those that made as many.
+    ensures some { IfOk result (λ found.
+        IfSome found (IsMostMade (logged_program strict root.now) cells)) }
+    // None is found only where the meaning fits in `cells` cells.
+    ensures none { IfOk result (λ found.
+        IfNone found (¬ rounds.IsFull (logged_program strict root.now) cells)) }
+{
+    let noting = LoggedBody::of(alloc, root.twin(alloc)?)?;
+    let found = first_full(alloc, &noting, cells, strict)?;
+    let Some(round) = found else {
+        return Ok(None);
+    };
+    let makers = first_makers(alloc, &noting, cells, strict, &round)?;
+    most_of(alloc, makers.as_slice())
+}
+
+/// What made the first cells of the round but the root's result.
+fn first_makers(
+    alloc: Global,
+    root: &LoggedBody,
+    cells: u32,
+    strict: bool,
+    round: &FullRound,
+) -> Result<Vec<Maker>, Oom>
+    requires root { IsFresh logged_places logged_awaits logged_left 1 root.now }
+    requires notes_nothing { root.now ≡ logged root.now.placed }
+    requires round { let p = program_of logged_places logged_awaits logged_left logged_asks
+        logged_then strict root.now in (n : ℕ) × (round.now.number ≡ suc n)
+        × (assignment_in round.now.given ≡ rounds.given p n) }
+    ensures { let p = program_of logged_places logged_awaits logged_left logged_asks
+        logged_then strict root.now in IfOk result (λ makers.
+        makers.items ≡ take cells (round_makers p round.now.number)) }
+{
+    let mut makers = Vec::new(alloc);
+    let mut pending = Vec::new(alloc);
+    let first = root_task(alloc, root)?;
+    take_up(
+        alloc,
+        first,
+        round.number,
+        &round.given,
+        strict,
+        &mut pending,
+        &mut makers,
+    )?;
+    while let Some(Found { task, maker, depth }) = pending.pop() {
+        if makers.len() >= cells as usize {
+            break;
+        }
+        makers.push(maker)?;
+        take_up(
+            alloc,
+            task,
+            depth,
+            &round.given,
+            strict,
+            &mut pending,
+            &mut makers,
+        )?;
+    }
+    makers.truncate(cells as usize);
+    Ok(makers)
+}
+
+/// The task is taken: what made its promises is noted, and its children are to be taken next, if
+/// so many forks are followed that they are reached.
+fn take_up<'s>(
+    alloc: Global,
+    task: Task<LoggedBody<'s>>,
+    depth: u32,
+    given: &NameMap<Entry>,
+    strict: bool,
+    pending: &mut Vec<Found<LoggedBody<'s>>>,
+    makers: &mut Vec<Maker>,
+) -> Result<(), Oom>
+    requires proper { IsProper (rules_of logged_places logged_awaits logged_left logged_asks
+        logged_then strict) task }
+    requires notes_nothing { task.body ≡ logged task.body.placed }
+    ensures { IfOk result (λ _. IsTaken (rules_of logged_places logged_awaits logged_left logged_asks
+        logged_then strict) (assignment_in given.now) task.entry depth pending.old.items
+        pending.new.items makers.old.items makers.new.items) }
+{
+    let (noted, children) = parts(history(alloc, task, given, strict)?);
+    follow(alloc, noted, children, depth, pending, makers)
+}
+
+/// What was noted of the task's things, and its children.
+fn parts<'s>(point: Point<LoggedBody<'s>>) -> (Vec<Maker>, Vec<Task<LoggedBody<'s>>>)
+    ensures makers { result.0.items ≡ point.entry.body.makers }
+    ensures children { result.1.items ≡ point.entry.children }
+{
+    let body = point.body;
+    let children = point.children.into_vec();
+    (body.makers, children)
+}
