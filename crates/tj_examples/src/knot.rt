@@ -1,53 +1,59 @@
 //! Two tasks that wait for each other's promise, and a third one that goes on.
 use std::alloc::Global;
-use tj_task::{Do, Oom, Plan, Told, steps};
+use tj_task::{Do, Oom, Plan, Told, plus, steps};
 
-/// The root, and the tasks that it starts.
+/// The root, and the tasks that it starts. A counter goes on by forks, to 2 to the power of n.
 #[derive(Clone, Copy)]
 pub enum Knot {
-    Root,
+    Root(u32),
     Partner,
-    Counter,
+    Counter(u32),
 }
 
 impl Plan for Knot {
     // Written by launch/mirror from `next`, which the check holds against it.
-    ghost use Rattle.std.specs.Prelude.{[], pos, ◌∷◌};
+    ghost use Rattle.std.specs.Prelude.{[], if◌then◌else◌, nat_eq, pos, ◌-◌, ◌∷◌};
     ghost use Rattle.tj_task.specs.Words as words;
     ghost use Rattle.tj_examples.specs.declared.knot.Knot.TheVariants as plan;
 
     ghost asks = { λ t log.
         elim t [
-          | plan.Root ↦
+          | plan.Root n ↦
               words.news log 0 (λ p.
               words.news log 1 (λ q.
               words.forks_with log 2 plan.Partner (p.place ∷ q.place ∷ []) (p.place ∷ []) (λ a.
               words.forks_with log 3 plan.Partner (q.place ∷ p.place ∷ []) (q.place ∷ []) (λ b.
-              words.forks log 4 plan.Counter (λ c.
-              words.joins log 5 c (λ n.
-              words.ends (words.num n)))))))
+              words.forks log 4 (plan.Counter n) (λ c.
+              words.joins log 5 c (λ x.
+              words.ends (words.num x)))))))
           | plan.Partner ↦
               let mine = words.passed_promise 0 in
               let other = words.passed_promise 1 in
               words.gets log 0 other (λ v.
               words.sets log 1 mine (words.num v) (
               words.ends (words.num v)))
-          | plan.Counter ↦
+          | plan.Counter n ↦
+              if nat_eq n 0 then
               words.prints log 0 (pos 1) (
-              words.prints log 1 (pos 2) (
-              words.ends (words.num (pos 3))))
+              words.ends (words.num (pos 1)))
+              else
+              words.forks log 0 (plan.Counter (n - 1)) (λ a.
+              words.forks log 1 (plan.Counter (n - 1)) (λ b.
+              words.joins log 2 a (λ x.
+              words.joins log 3 b (λ y.
+              words.ends (words.num (words.plus x y))))))
         ] };
 
     fn next(&self, alloc: Global, log: &[Told]) -> Result<Do<Knot>, Oom> {
         match *self {
-            Knot::Root => steps! { alloc, log;
+            Knot::Root(n) => steps! { alloc, log;
                 let p = new;
                 let q = new;
                 let a = fork Knot::Partner, pass [p, q], hand [p];
                 let b = fork Knot::Partner, pass [q, p], hand [q];
-                let c = fork Knot::Counter;
-                let n = join c;
-                return n
+                let c = fork Knot::Counter(n);
+                let x = join c;
+                return x
             },
             Knot::Partner => steps! { alloc, log;
                 let mine: Promise = passed 0;
@@ -56,11 +62,18 @@ impl Plan for Knot {
                 set mine = v;
                 return v
             },
-            Knot::Counter => steps! { alloc, log;
-                print 1;
-                print 2;
-                return 3
-            },
+            Knot::Counter(n) => {
+                if n == 0 {
+                    return steps! { alloc, log; print 1; return 1 };
+                }
+                steps! { alloc, log;
+                    let a = fork Knot::Counter(n - 1);
+                    let b = fork Knot::Counter(n - 1);
+                    let x = join a;
+                    let y = join b;
+                    return plus(x, y)
+                }
+            }
         }
     }
 

@@ -32,13 +32,13 @@ module _ (tells : Kept → News → Goes → Kept → Type 0)
       (sym (kept_after k.0 s t k.1.calls ∙ ap (λ z. z ++ k.0) none)) (k.2, k.1.apart)
 
   -- and where the run ends with Full, what is given of one like it has what was told
-  pub kept_full : {A : Type 0} (P : List News → Type 0) (s t : Kept) (r : Result A ToldFault) (f : ToldFault)
+  pub kept_full : {A : Type 0} (P : ToldFault → List News → Type 0) (s t : Kept) (r : Result A ToldFault) (f : ToldFault)
       (o : Option Kept) → s.news ≡ [] → r ≡ Err f → IfSome o (λ k. (f ≡ fault.Full) × (k ≡ t))
-      → IfErr r (λ e. (ns : List News) × IsHeardUntil tells e ns s t × P ns)
-      → IfSome o (λ k. P k.news × AreApart k.news)
+      → IfErr r (λ e. (ns : List News) × IsHeardUntil tells e ns s t × P e ns)
+      → IfSome o (λ k. P fault.Full k.news × AreApart k.news)
   kept_full P s t r f None none is same h = tt
   kept_full P s t r f (Some k) none is same h =
-      let Q : ToldFault → Type 0 = λ e. (ns : List News) × IsHeardUntil tells e ns s t × P ns in
+      let Q : ToldFault → Type 0 = λ e. (ns : List News) × IsHeardUntil tells e ns s t × P e ns in
       let m : Q fault.Full = subst Q same.0 (subst (λ z. IfErr z Q) is h) in
-      subst (λ (z : Kept). P z.news × AreApart z.news) (sym same.1)
-      (subst (λ z. P z × AreApart z) (sym (kept_after m.0 s t m.1.calls ∙ ap (λ z. z ++ m.0) none)) (m.2, m.1.apart))
+      subst (λ (z : Kept). P fault.Full z.news × AreApart z.news) (sym same.1)
+      (subst (λ z. P fault.Full z × AreApart z) (sym (kept_after m.0 s t m.1.calls ∙ ap (λ z. z ++ m.0) none)) (m.2, m.1.apart))

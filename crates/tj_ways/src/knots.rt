@@ -57,15 +57,20 @@ impl Listener for Writes {
     }
 }
 
-/// What is told of two tasks that wait for each other, by looks every two milliseconds.
+/// What is told of two tasks that wait for each other, by looks every two milliseconds, while a third
+/// one counts to 8,192.
 pub(crate) fn told_knot<R: Wait + Threads + Sync + AllocGlobal>(rt: &R) -> Option<Vec<u8>> {
     let alloc = rt.alloc();
-    let root = TaskBody::new(Replay::of(alloc, Knot::Root), 100);
     let writes = Writes {
         alloc,
         text: Vec::new(alloc),
     };
-    let (outcome, writes) = run_told(rt, alloc, root, Options::usual(), Looks::Every(2), writes);
+    let root = TaskBody::new(Replay::of(alloc, Knot::Root(13)), 100);
+    let options = Options {
+        cells: 20_000,
+        ..Options::usual()
+    };
+    let (outcome, writes) = run_told(rt, alloc, root, options, Looks::Every(2), writes);
     match outcome {
         Ok(_outcome) => Some(writes.text),
         Err(_fault) => None,

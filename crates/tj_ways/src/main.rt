@@ -12,6 +12,7 @@ mod polled;
 mod rows;
 mod scripts;
 mod stood;
+mod stops;
 mod told;
 mod values;
 mod watched;
@@ -31,12 +32,13 @@ use std::random::RandomSource;
 use std::sync::Wait;
 use std::thread::Threads;
 use stood::full_beside_a_knot;
+use stops::stopped;
 use tj_ports::{StdSink, put_all};
 use values::values_by_name;
 use watched::{watched, watched_plan};
 
 /// What all of them give, where memory lasts.
-fn texts<R: Wait + Threads + RandomSource + Sync + AllocGlobal>(rt: &R) -> Option<[Vec<u8>; 19]> {
+fn texts<R: Wait + Threads + RandomSource + Sync + AllocGlobal>(rt: &R) -> Option<[Vec<u8>; 20]> {
     Some([
         which_owe(rt)?,
         on_a_cycle(rt)?,
@@ -51,6 +53,7 @@ fn texts<R: Wait + Threads + RandomSource + Sync + AllocGlobal>(rt: &R) -> Optio
         kept_circle(rt)?,
         kept_broken(rt)?,
         full_beside_a_knot(rt)?,
+        stopped(rt)?,
         watched(rt)?,
         watched_plan(rt)?,
         planned_and_run(rt)?,

@@ -15,7 +15,7 @@ use tj_task::{Replay, TaskBody};
 
 /// The report of two tasks that wait for each other, beside a third one.
 pub(crate) fn in_a_knot<R: Wait + Threads + Sync + AllocGlobal>(rt: &R) -> Option<Vec<u8>> {
-    let root = TaskBody::new(Replay::of(rt.alloc(), Knot::Root), 100);
+    let root = TaskBody::new(Replay::of(rt.alloc(), Knot::Root(0)), 100);
     let outcome = run_outcome(rt, rt.alloc(), root, Options::usual()).ok()?;
     report_text(rt.alloc(), &outcome).ok()
 }

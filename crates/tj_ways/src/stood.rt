@@ -13,13 +13,14 @@ use tj_embed::{Options, script_in};
 use tj_syntax::Script;
 use tj_told::{Looks, News, ToldFault, run_script_told};
 
-/// Two tasks that wait for each other, beside one that counts down and then forks itself for ever.
-const FILLS: &[u8] = b"task main() {
+/// Two tasks that wait for each other, beside one that counts down and then forks the same again, for
+/// ever.
+pub(crate) const FILLS: &[u8] = b"task main() {
   let p = new;
   let q = new;
+  fork filler(20000);
   fork partner(own p, q);
   fork partner(own q, p);
-  fork filler(20000);
   return 0;
 }
 task partner(mine, other) {
@@ -28,10 +29,11 @@ task partner(mine, other) {
   return v;
 }
 task filler(n) {
-  while n > 0 {
-    n = n - 1;
+  let k = n;
+  while k > 0 {
+    k = k - 1;
   }
-  fork filler(0);
+  fork filler(n);
   return 0;
 }
 ";
@@ -45,8 +47,8 @@ fn told_of_full<R: Wait + Threads + Sync + AllocGlobal>(
     requires limits { AreLimits options }
     requires script { IsSomeScript (shown.script script.now) }
     // What was kept stood at the end of the run, and nothing was kept twice.
-    ensures { IfSome result (λ kept. IsEarlyOfScript (shown.script script.now) options None kept.news
-        × AreApart kept.news) }
+    ensures { IfSome result (λ kept. IsEarlyOfScript (shown.script script.now) options None
+        ToldFault.Full kept.news × AreApart kept.news) }
 {
     let kept = Kept::new(rt.alloc());
     let (run, kept) = run_script_told(rt, rt.alloc(), script, options, Looks::Every(0), kept);
@@ -72,7 +74,7 @@ pub(crate) fn full_beside_a_knot<R: Wait + Threads + Sync + AllocGlobal>(
 ) -> Option<Vec<u8>> {
     let script = script_in(rt.alloc(), FILLS).ok()?;
     let options = Options {
-        cells: 100,
+        cells: 20,
         ..Options::usual()
     };
     let kept = told_of_full(rt, &script, options)?;

@@ -16,7 +16,7 @@ use tj_task::{Replay, TaskBody};
 pub(crate) fn values_by_name<R: Wait + Threads + Sync + AllocGlobal>(rt: &R) -> Option<Vec<u8>> {
     let alloc = rt.alloc();
     let mut text = report_of_a_knot(rt)?;
-    let knot = TaskBody::new(Replay::of(alloc, Knot::Root), 100);
+    let knot = TaskBody::new(Replay::of(alloc, Knot::Root(0)), 100);
     add_value(&first_of(rt, knot).ok()??, &mut text)?;
     add_value(&first_of_script(rt)?, &mut text)?;
     add_value(&first_of(rt, Handover::Begin(20)).ok()??, &mut text)?;
@@ -25,7 +25,7 @@ pub(crate) fn values_by_name<R: Wait + Threads + Sync + AllocGlobal>(rt: &R) -> 
 
 /// The report of two tasks that wait for each other.
 fn report_of_a_knot<R: Wait + Threads + Sync + AllocGlobal>(rt: &R) -> Option<Vec<u8>> {
-    let root = TaskBody::new(Replay::of(rt.alloc(), Knot::Root), 100);
+    let root = TaskBody::new(Replay::of(rt.alloc(), Knot::Root(0)), 100);
     let report = run_report(rt, rt.alloc(), root, Options::usual()).ok()?;
     Some(report.text)
 }
