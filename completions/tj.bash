@@ -50,7 +50,7 @@ _tj_why() {
         '<') _tj_complete -f && return ;;
         --cells | --steps) return ;;
     esac
-    [ "$COMP_CWORD" -gt 1 ] || words="$words --unproved --help --version"
+    [ "$COMP_CWORD" -gt 1 ] || words="prove $words --unproved --help --version"
     case $word in
         -*) _tj_complete "$words" ;;
         *) _tj_complete -f "$words" ;;
