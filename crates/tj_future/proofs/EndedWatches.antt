@@ -2,13 +2,12 @@
 use Rattle.std.proofs.Common.{◌≡◌, ℕ, Bool, [], ap, ◌∙◌, subst}
 use Rattle.tj_body.specs.Programs.{Program}
 use Rattle.tj_cells.specs.CallLogs.{Seat}
-use Rattle.tj_words.specs.AtRest.EndedRuns.{EndsRun}
+use Rattle.tj_words.specs.AtRest.EndedRuns.{RestEndsRun}
 use Rattle.tj_words.specs.AtRest.RestShown.{RestShown}
 use Rattle.tj_words.specs.AtRest.RestingSeats.{MayRest}
 use Rattle.tj_words.specs.LawParts.FirstState.{first_view}
 use Rattle.tj_words.specs.SeatViews.SeatSteps.{SeatMe}
 use Rattle.tj_words.specs.declared.table.Laid.{Laid}
-use Rattle.tj_words.specs.declared.view.View.{View}
 use Rattle.tj_run.specs.Leaving.{HasRested, Leaves}
 use Rattle.tj_run.specs.declared.why.Left.{Left}
 use Rattle.tj_run.specs.declared.why.Left.TheVariants as leaving
@@ -23,12 +22,12 @@ module _ {B : Type 0} (program : Bool → B → Program B) (root : B) (cells : �
       → HasWatched program laid.cells p answer how old.0 now
       → how ≡ leaving.Rested
       → (r : RestShown B)
-      → EndsRun program laid.cells laid.strict laid.root.value now r.cells r.records
-      → EndsWatched program cells strict root p answer r.cells r.records
+      → RestEndsRun program laid.cells laid.strict laid.root.value now r
+      → EndsWatched program cells strict root p answer r
   ends_watched p answer how old first now h is r e = ended now h.given
-      (subst (λ n. EndsRun program n strict root now r.cells r.records) of_cells
-      (subst (λ b. EndsRun program laid.cells b root now r.cells r.records) of_strict
-      (subst (λ x. EndsRun program laid.cells laid.strict x now r.cells r.records) of_root e)))
+      (subst (λ n. RestEndsRun program n strict root now r) of_cells
+      (subst (λ b. RestEndsRun program laid.cells b root now r) of_strict
+      (subst (λ x. RestEndsRun program laid.cells laid.strict x now r) of_root e)))
       (subst (λ n. IsWatch program n p answer (first_view cells root strict) h.given) of_cells
       (subst (λ (m : SeatMe B). IsWatch program laid.cells p answer m.0 h.given) first h.watch))
       (h.taken is)

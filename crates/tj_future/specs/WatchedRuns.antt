@@ -1,12 +1,11 @@
 -- What is given by workers with a watch of a cell beside them: what the watch was answered, the seat that has taken in
 -- that of the watch, and the run that ends with it.
-use Rattle.std.specs.Prelude.{◌≡◌, ◌≢◌, ℕ, Bool, List, [], Option}
+use Rattle.std.specs.Prelude.{◌≡◌, ◌≢◌, ℕ, Bool, []}
 use Rattle.tj_body.specs.Points.{IsIn}
 use Rattle.tj_body.specs.Programs.{Program}
 use Rattle.tj_cells.specs.CallLogs.{Seat}
-use Rattle.tj_words.specs.AtRest.EndedRuns.{EndsRun}
-use Rattle.tj_words.specs.declared.closed.RestCell.{RestCell}
-use Rattle.tj_record.specs.declared.record.Rec.{Rec}
+use Rattle.tj_words.specs.AtRest.EndedRuns.{RestEndsRun}
+use Rattle.tj_words.specs.AtRest.RestShown.{RestShown}
 use Rattle.tj_words.specs.declared.view.View.{View}
 use Rattle.tj_words.specs.LawParts.FirstState.{first_view}
 use Rattle.tj_words.specs.SeatViews.Views.{both, right_half}
@@ -46,9 +45,9 @@ module _ {B : Type 0} where
   -- has taken in the watch's, which began with a half of the first seat, and whose last look at cell p was answered
   -- like this
   pub data EndsWatched (program : Bool → B → Program B) (limit : ℕ) (strict : Bool) (root : B) (p : ℕ)
-      (answer : Watched) (cells : List RestCell) (records : List (Option (Rec B))) : Type 0 where
+      (answer : Watched) (r : RestShown B) : Type 0 where
     ended : (seat given : Seat B)
-        → EndsRun program limit strict root seat cells records
+        → RestEndsRun program limit strict root seat r
         → IsWatch program limit p answer (first_view limit root strict) given
         → HasTaken given seat
-        → EndsWatched program limit strict root p answer cells records
+        → EndsWatched program limit strict root p answer r

@@ -19,7 +19,6 @@ ghost use Rattle.tj_future.specs.Looks.{IsWatched};
 ghost use Rattle.tj_future.specs.RootWatches.{IsRootWatched};
 ghost use Rattle.tj_future.specs.WatchedRuns.{EndsWatched, HasWatched};
 
-use crate::beginning::begun;
 use crate::looks::watch;
 use crate::watched::Watched;
 use std::alloc::Global;
@@ -29,7 +28,7 @@ use tj_base::CellId;
 use tj_body::Body;
 use tj_ports::Gate;
 use tj_ready::Pool;
-use tj_run::{Left, RunFault, Why, work_all};
+use tj_run::{Left, RunFault, Why, begun, work_all};
 use tj_words::{Laid, RestWords, WSeat};
 
 /// Runs a program with this root to its rest without the strict rule, as `run_all` does, with a watch
@@ -59,7 +58,7 @@ pub fn run_watched<B: Body, P: Pool, G: Gate, R: Wait + Threads + Sync>(
     // looks at the root, of which the last was answered so, as `look_at` says it, and no other step;
     // and the seat that closed the table has taken it in, with its log, in the run whose end this is.
     ensures run { IfOk result (λ out. EndsWatched (program_of B.places B.awaits B.left B.asks B.then)
-        cells false root 0 out.0 out.1.cells out.1.records) }
+        cells false root 0 out.0 out.1) }
     // Then the meaning isn't full.
     ensures fits { IfOk result (λ _. ¬ IsFull
         (program_of B.places B.awaits B.left B.asks B.then false root) cells) }
@@ -67,7 +66,7 @@ pub fn run_watched<B: Body, P: Pool, G: Gate, R: Wait + Threads + Sync>(
     ensures full { IfErr result (λ fault. fault ≡ RunFault.Full → IsFull
         (program_of B.places B.awaits B.left B.asks B.then false root) cells) }
 {
-    let (ends, laid, seat) = begun::<B, P, R>(rt, alloc, root, cells, workers)?;
+    let (ends, laid, seat) = begun::<B, P, R>(rt, alloc, root, cells, workers, false)?;
     let (seat, left, answer) = work_watched::<B, P, G, R>(rt, alloc, &laid, seat, ends, gate);
     match left {
         Left::Rested => Ok((answer, laid.rest(seat))),

@@ -17,5 +17,3 @@ pub use watched::Watched;
 mod look_laws;
 
 pub use look_laws::looks_stand;
-
-mod beginning;

@@ -18,7 +18,6 @@ ghost use Rattle.tj_future.specs.LookLogs.{MakesLooks};
 ghost use Rattle.tj_future.specs.Looks.{IsWatched};
 ghost use Rattle.tj_future.specs.WatchedRuns.{EndsWatched, HasWatched};
 
-use crate::beginning::begun;
 use crate::beside::{fault_of, take_in};
 use crate::polls::{CellWait, Polled};
 use crate::watched::Watched;
@@ -31,7 +30,7 @@ use tj_base::{CellId, Oom};
 use tj_body::{Body, meaning_is_last, rest_is_meaning};
 use tj_ports::Gate;
 use tj_ready::Pool;
-use tj_run::{Left, RunFault, work_all};
+use tj_run::{Left, RunFault, begun, work_all};
 use tj_words::{Laid, RestWords, WSeat};
 
 /// Runs a program with this root to its rest without the strict rule, as `run_all` does, with a future
@@ -66,7 +65,7 @@ where
     // step; and the seat that closed the table has taken it in, with its log, in the run whose end
     // this is.
     ensures watched { IfOk result (λ out. EndsWatched (program_of B.places B.awaits B.left B.asks
-        B.then) cells false root p.0 out.0 out.1.cells out.1.records) }
+        B.then) cells false root p.0 out.0 out.1) }
     // Then the meaning isn't full.
     ensures fits { IfOk result (λ _. ¬ IsFull
         (program_of B.places B.awaits B.left B.asks B.then false root) cells) }
@@ -76,7 +75,7 @@ where
 {
     rest_is_meaning::<B>();
     meaning_is_last::<B>();
-    let (ends, laid, seat) = begun::<B, P, R>(rt, alloc, root, cells, workers)?;
+    let (ends, laid, seat) = begun::<B, P, R>(rt, alloc, root, cells, workers, false)?;
     let (seat, left, answer) = work_polled::<B, P, G, R>(rt, alloc, &laid, seat, ends, gate, p)?;
     match left {
         Left::Rested => Ok((answer, laid.rest(seat))),

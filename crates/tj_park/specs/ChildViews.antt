@@ -12,10 +12,10 @@ use Rattle.tj_words.specs.declared.view.View.{View}
 use Rattle.tj_words.specs.LawParts.Holding.{held_in}
 use Rattle.tj_words.specs.SeatViews.KnowsMore.{KnowsMore, HasSameWakes, HasSameHand, HasSameCounts}
 use Rattle.tj_words.specs.LawParts.LiveCount.{IsBacked}
-use Rattle.tj_words.specs.Calls.LiveViews.{without_task}
+use Rattle.tj_words.specs.Calls.LiveViews.{now_home, without_task}
 use Rattle.tj_words.specs.LawParts.RecordPhases.{WaitsFor}
 use Rattle.tj_words.specs.Calls.TakenRecords.{custody_of}
-use Rattle.tj_words.specs.SeatViews.TaskLists.{hold, let_go}
+use Rattle.tj_words.specs.SeatViews.TaskLists.{hold, let_go, noted}
 use Rattle.tj_park.specs.Records.{MayGoHome, HasTaken, HasNothingToCome, AlarmsLeave}
 
 module _ {B : Type 0} where
@@ -31,6 +31,11 @@ module _ {B : Type 0} where
     pub backed : IsBacked v
     pub room : v.tokens < v.lot
     pub alarms : AlarmsLeave 0 v
+
+  -- the record of the child lies at home, and the seat holds the child still; it took a token for it, in one step
+  abbrev pub child_home : ℕ → Rec B → View B → View B
+  child_home t r v =
+      record v { steps = suc v.steps; tokens = suc v.tokens; tasks = noted t (now_home r) v.tasks }
 
   -- the child is ready and has left the seat, in two steps; the token that was taken for it is spent
   abbrev pub released_child : ℕ → View B → View B

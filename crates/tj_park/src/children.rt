@@ -7,7 +7,7 @@ ghost use Rattle.tj_words.specs.CallLaws.StepCalls as call;
 ghost use Rattle.tj_words.specs.CallLaws.StepLogs.{entry_of};
 ghost use Rattle.tj_words.specs.SeatViews.SeatSteps.{IsCellOf, IsSeatOf};
 ghost use Rattle.tj_words.specs.Words.Phases.{phase_word};
-ghost use Rattle.tj_park.specs.ChildViews.{MayReleaseChild, released_child};
+ghost use Rattle.tj_park.specs.ChildViews.{MayReleaseChild, child_home, released_child};
 
 use std::alloc::Global;
 use std::sync::Wait;
@@ -51,6 +51,11 @@ pub fn release<B: Body, P: Pool, R: Wait>(
     ensures log { (n : ℕ) × (seat.new.log ≡ entry_of (call.puts_phase t.0) (phase_word Phase.Ready)
         0 (phase_word Phase.Ready) ∷ entry_of call.raises_live 1 0 n ∷ seat.old.log)
         × (seat.new.took ≡ seat.old.took) }
+    // Beside each of them the seat keeps the view that it had before it: by the second step it had
+    // the very record that was passed at home.
+    ensures before { (seat.new.befores
+        ≡ child_home t.0 rec seat.old.me.0 ∷ seat.old.me.0 ∷ seat.old.befores)
+        × (seat.new.took_befores ≡ seat.old.took_befores) }
 {
     drop(laid.slot_swap(seat, t, Some(rec)));
     laid.live_up(seat);

@@ -4,13 +4,14 @@ use Rattle.tj_program.proofs.Prelude.{IsOutcome, IsPutAs, IsRelayRun, IsStartOfT
 use Rattle.tj_program.proofs.Prelude.{Report, RestCell, Root, Status, Summary, Told, WriteFault, ap, false≢true, inl}
 use Rattle.tj_program.proofs.Prelude.{inr, is_marked, meaning, relay_start, script_text, sym, ℕ, ◌<◌, ◌↔◌, ◌≡◌, ◌⊎◌}
 use Rattle.std.proofs.Common.{length, true, false, String, Option, Some, None, IsSome, IfSome, refl, subst}
+use Rattle.tj_body.specs.Programs.{Rules}
 use Rattle.tj_report.specs.ClosedOutcomes.{AreCyclesOfOutcomeAlarmed}
 use Rattle.tj_ports.specs.Putting.{GrowsByPart}
 use Rattle.tj_run.specs.Runs.{RestsAt}
 use Rattle.tj_words.specs.AtRest.RestShown.{RestShown}
 use Rattle.tj_program.specs.ClosedRuns.{HasOutcome, HaveWorkers, IsClosedRun, IsClosedRunOf, IsCommandClosed}
 use Rattle.tj_modes.specs.Output.{has_workers}
-use Rattle.tj_program.specs.ClosedRuns.{IsRunClosed}
+use Rattle.tj_program.specs.ClosedRuns.{IsRunClosed, program_by}
 use Rattle.tj_program.specs.Inner.ClosedOutputs.{AreWith, IsGiven, IsPutWith, IsRunGiven, IsScriptGiven}
 use Rattle.tj_modes.specs.Runs.{Start, StartOf, IsRunOf, NeedsMore, full, ended, started, status_of, text_of}
 use Rattle.tj_modes.specs.Texts.{full_line}
@@ -36,22 +37,23 @@ module _ {B : Type 0} (program : Bool → B → Program B) where
       (subst (λ z. IsRunGiven told (started program strict z r.root) status text closed) h.names_limit
       (subst (λ z. IsRunGiven told (started program z r.limit r.root) status text closed) h.names_strict given))
 
+module _ {B : Type 0} (rules : Rules B) where
   -- text, status and closed words of a table at rest are of one run
   pub closed_at_rest : (told : Told) (r : RestShown B) (outcome : Outcome) (status : Status) (text : List ℕ)
-      (closed : List RestCell) → RestsAt program r.root r.limit r.strict r
-      → IsOutcome (meaning (program r.strict r.root) r.limit) outcome
+      (closed : List RestCell) → RestsAt (program_by rules) r.root r.limit r.strict r
+      → IsOutcome (meaning (program_by rules r.strict r.root) r.limit) outcome
       → AreCyclesOfOutcomeAlarmed r.cells outcome → status ≡ status_of (is_marked outcome)
       → text ≡ text_of told outcome → closed ≡ r.cells
-      → IsRunClosed told (started program r.strict r.limit r.root) status text closed
+      → IsRunClosed told (started (program_by rules) r.strict r.limit r.root) status text closed
   closed_at_rest told r outcome status text closed h is alarmed s t e =
-      subst (IsRunClosed told (started program r.strict r.limit r.root) status text) (sym e) (record {
+      subst (IsRunClosed told (started (program_by rules) r.strict r.limit r.root) status text) (sym e) (record {
         fits = h.meaning.1.fits;
         outcome = outcome;
         is = is;
         status_is = s;
         text_is = t;
         words = (h.meaning.0, h.meaning.1);
-        run = (program, r.strict, r.root, refl, (h.run.0, r.records, h.run.1));
+        run = (h.run.0, r.records, h.run.1.ends);
         rest = h.rest;
         alarmed = alarmed;
         cycles = h.cycles;

@@ -2,7 +2,7 @@
 use Rattle.std.specs.Prelude.{ℕ, ◌≡◌, Bool, true, List, Option, String}
 use Rattle.std.specs.Io.KnownBytes.{Appends}
 use Rattle.std.specs.declared.alloc.Global.{Global}
-use Rattle.tj_body.specs.Programs.{Program}
+use Rattle.tj_body.specs.Programs.{Program, Rules}
 use Rattle.tj_mean.specs.declared.outcome.Outcome.{Outcome}
 use Rattle.tj_mean.specs.Outcomes.{is_marked}
 use Rattle.tj_report.specs.ClosedOutcomes.{AreCyclesOfOutcomeAlarmed}
@@ -13,7 +13,7 @@ use Rattle.tj_words.specs.declared.closed.RestCell.{RestCell}
 use Rattle.tj_modes.specs.CommandLine.{IsCommand}
 use Rattle.tj_modes.specs.Output.{IsStart, has_workers}
 use Rattle.tj_modes.specs.RelayRuns.{relay_start}
-use Rattle.tj_modes.specs.Runs.{Start, StartOf, NeedsMore, IsOutcomeOf, started, status_of, text_of}
+use Rattle.tj_modes.specs.Runs.{Start, StartOf, NeedsMore, IsOutcomeOf, status_of, text_of}
 use Rattle.tj_modes.specs.declared.command.Command.{Command}
 use Rattle.tj_modes.specs.declared.command.Command.TheVariants.{Gen, Relay, Watch}
 use Rattle.tj_modes.specs.declared.script_run.Told.{Told}
@@ -38,6 +38,10 @@ told_of (Watch workers cells steps) = Root
 told_of _ = Report
 
 module _ {B : Type 0} where
+  -- the program of a root whose tasks go by these rules, under the rule for joins that is given
+  abbrev pub program_by : Rules B → Bool → B → Program B
+  program_by rules strict root = record { rules = record rules { strict = strict }; root = root }
+
   -- Status, text and closed words are of one run. It isn't full; the text and the status are those of its outcome; the
   -- words are at rest, and are those of its meaning. Each cycle, of the outcome and of the words, has a member that has
   -- alarmed, and each task that has alarmed is on a cycle.
@@ -49,10 +53,9 @@ module _ {B : Type 0} where
     pub status_is : status ≡ status_of (is_marked outcome)
     pub text_is : text ≡ text_of told outcome
     pub words : HaveWords start.program start.cells closed
-    -- and they are the end of a run of a table for this start, from its first state
-    pub run : (program : Bool → B → Program B) × (strict : Bool) × (root : B)
-        × (start ≡ started program strict start.cells root)
-        × AreEndOfRun program root start.cells strict closed
+    -- and they are the end of a run of a table for this root and rule, from its first state
+    pub run : AreEndOfRun (program_by start.program.rules) start.program.root start.cells
+        start.program.rules.strict closed
     pub rest : AreAtRest closed
     pub alarmed : AreCyclesOfOutcomeAlarmed closed outcome
     pub cycles : AreCyclesAlarmed closed

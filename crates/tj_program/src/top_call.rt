@@ -145,9 +145,10 @@ pub fn run_words<S: Source, K: Sink, G: Gate, R: Wait + Threads + Sync>(
     // Where what is read is told, closed words, status and text are of one run, that of the root,
     // rule and limit which the words and the input name (in `relay`, of the body that
     // `tj_chan::ChanBody::new` makes of the relay's root), and its text was put whole. The run
-    // isn't full. The text and the status are those of its outcome; the words are at rest and are
-    // those of its meaning: its cells by name, each once, TAG by each entry, and each history by
-    // phase and owners. Each cycle of the outcome, and each cycle of the words, has a member that
+    // isn't full. The text and the status are those of its outcome. The words are the end of a run of
+    // a table for this root, rule and limit, from its first state; they are at rest, and are those of
+    // its meaning: its cells by name, each once, TAG by each entry, and each history by phase and
+    // owners. Each cycle of the outcome, and each cycle of the words, has a member that
     // has alarmed, and each task that has alarmed is on a cycle.
     ensures closed { (input : List ℕ) → (TakesInput words.now → S.left source.old ≡ Some input)
         → IfSome result.1 (IsClosedRunOf words.now input (K.held sink.old) (K.held sink.new)

@@ -27,7 +27,8 @@ pub trait Pool: Sized + Send + Drop {
     /// The cell left one queue at a step, as far as the end can tell.
     ghost takes: { Self → CellId → Self → Type 0 } = { λ _ _ _. ⊤ };
 
-    /// Each queue that the end can take from was empty at a step, as far as the end can tell.
+    /// Each queue that the end can take from was empty at a step, or, newest first, another's had one cell at
+    /// most, as far as the end can tell.
     ghost finds_none: { Self → Self → Type 0 } = { λ _ _. ⊤ };
 
     /// An end for each worker, all empty.
@@ -57,8 +58,8 @@ pub trait Pool: Sized + Send + Drop {
         ensures err { OnErr result (same self.old self.new) };
 
     /// Takes a cell out of one queue. `None` comes only where each queue that this end can take
-    /// from was empty at a step of this call. It takes no memory. `takes` and `finds_none` have what
-    /// of this the end can tell.
+    /// from was empty at a step of this call, or, newest first, where another's had one cell at most.
+    /// It takes no memory. `takes` and `finds_none` have what of this the end can tell.
     fn take<R: Wait>(&mut self, rt: &R) -> Option<CellId>
         // The limit stays.
         ensures limit { Self.limit self.new ≡ Self.limit self.old }

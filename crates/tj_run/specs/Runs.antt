@@ -7,7 +7,7 @@ use Rattle.tj_words.specs.declared.closed.RestCell.{RestCell}
 use Rattle.tj_words.specs.declared.view.View.{View}
 use Rattle.tj_words.specs.LawParts.Lots.{least_lot}
 use Rattle.tj_words.specs.AtRest.ClosedCells.{AreAtRest, AreCyclesAlarmed, AreAlarmsOnCycles}
-use Rattle.tj_words.specs.AtRest.EndedRuns.{EndsRun}
+use Rattle.tj_words.specs.AtRest.EndedRuns.{EndsRun, RestEndsRun}
 use Rattle.tj_words.specs.AtRest.RestMeaning.{HaveMeaning, AreCyclesOfMeaningAlarmed}
 use Rattle.tj_words.specs.AtRest.RestShown.{RestShown}
 use Rattle.tj_words.specs.AtRest.RestValues.{AreValuesOfMeaning}
@@ -19,10 +19,10 @@ module _ {B : Type 0} where
     pub few : workers ≤ 64
     pub lot : least_lot * workers ≤ v.lot
 
-  -- the words and the records are the end of a run of a table from its first state, which its last seat closed
+  -- all words and the records are the end of a run of a table from its first state, which its last seat closed
   abbrev pub EndsItsRun : (Bool → B → Program B) → B → ℕ → Bool → RestShown B → Type 0
   EndsItsRun program root limit strict r = (seat : SeatShown (Option (Rec B)) (View B))
-      × EndsRun program limit strict root seat r.cells r.records
+      × RestEndsRun program limit strict root seat r
 
   -- these closed words are those of the end of such a run
   abbrev pub AreEndOfRun : (Bool → B → Program B) → B → ℕ → Bool → List RestCell → Type 0

@@ -16,12 +16,12 @@ ghost use Rattle.tj_run.specs.Workers.{IsFree, table_program};
 ghost use Rattle.tj_run.specs.Leaving.{Leaves};
 ghost use Rattle.tj_run.specs.Runs.{HasLots, RestsAt};
 
+use crate::beginning::begun;
 use crate::turns::{wait_for_work, worker};
 use crate::why::{Left, RunFault, Why};
 use std::alloc::Global;
 use std::sync::Wait;
 use std::thread::{Threads, join};
-use tj_base::CellId;
 use tj_body::Body;
 use tj_ports::Gate;
 use tj_ready::Pool;
@@ -57,11 +57,7 @@ pub fn run_all<B: Body, P: Pool, G: Gate, R: Wait + Threads + Sync>(
     ensures full { IfErr result (λ fault. fault ≡ RunFault.Full → IsFull
         (program_of B.places B.awaits B.left B.asks B.then strict root) cells) }
 {
-    let mut ends = P::make(rt, alloc, workers, cells)?;
-    let (laid, seat) = Laid::new(alloc, cells, root, strict)?;
-    if let Some(first) = ends.as_mut_slice().first_mut() {
-        first.put(rt, alloc, CellId(0))?;
-    }
+    let (ends, laid, seat) = begun::<B, P, R>(rt, alloc, root, cells, workers, strict)?;
     let (seat, left) = work_all::<B, P, G, R>(rt, alloc, &laid, seat, ends, gate);
     match left {
         Left::Rested => Ok(laid.rest(seat)),

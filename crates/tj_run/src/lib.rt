@@ -20,3 +20,7 @@ mod writes;
 pub use crew::{run_all, work_all};
 pub use turns::worker;
 pub use why::{Left, RunFault, Why};
+
+mod beginning;
+
+pub use beginning::begun;

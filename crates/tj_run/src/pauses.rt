@@ -1,5 +1,5 @@
 //! How a worker that finds nothing to do waits before it looks again: it yields a few times, and then
-//! it sleeps, each time twice as long, up to some milliseconds. Nobody has to wake it. A worker whose
+//! it sleeps, each time twice as long, up to two milliseconds. Nobody has to wake it. A worker whose
 //! tasks are others', and are parked at once, does the same, up to a millisecond: it only parks them
 //! before their time, with long walks.
 use std::sync::Wait;
@@ -10,7 +10,7 @@ use std::time::Duration;
 const YIELDS: u32 = 8;
 
 // How often its sleep is doubled.
-const DOUBLINGS: u32 = 6;
+const DOUBLINGS: u32 = 4;
 
 // How often where the worker parks tasks of others.
 const FEW_DOUBLINGS: u32 = 3;

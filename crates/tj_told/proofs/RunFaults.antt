@@ -9,7 +9,8 @@ use Rattle.tj_eval.specs.Bodies.{IsMainBody}
 use Rattle.tj_eval.specs.Statements.{TaskState}
 use Rattle.tj_log.specs.Shown.{SeatShown}
 use Rattle.tj_syntax.specs.Trees.{Task}
-use Rattle.tj_words.specs.AtRest.EndedRuns.{EndsRun}
+use Rattle.tj_words.specs.AtRest.EndedRuns.{EndsRun, RestEndsRun}
+use Rattle.tj_words.specs.AtRest.RestShown.{RestShown}
 use Rattle.tj_words.specs.declared.closed.RestCell.{RestCell}
 use Rattle.tj_record.specs.declared.record.Rec.{Rec}
 use Rattle.tj_words.specs.declared.view.View.{View}
@@ -66,6 +67,12 @@ ends_on program l m s t x y seat cells records e f g h =
     subst (λ n. EndsRun program n t y seat cells records) e
     (subst (λ b. EndsRun program l b y seat cells records) f
     (subst (λ z. EndsRun program l s z seat cells records) g h))
+
+-- and so it is of a table closed at rest
+pub rest_ends_on : {B : Type 0} (program : Bool → B → Program B) (l m : ℕ) (s t : Bool) (x y : B)
+    (seat : SeatShown (Option (Rec B)) (View B)) (r : RestShown B) → l ≡ m → s ≡ t → x ≡ y
+    → RestEndsRun program l s x seat r → EndsRun program m t y seat r.cells r.records
+rest_ends_on program l m s t x y seat r e f g h = ends_on program l m s t x y seat r.cells r.records e f g h.ends
 
 -- what a run of a script's body gives is so of the script
 pub early_of_script : {T A : Type 0} (tells : T → News → Goes → T → Type 0) (s t : T) (script : List Task) (o : Options)

@@ -8,6 +8,8 @@ use Rattle.tj_words.specs.CallLaws.LoggedRuns.{in_order}
 use Rattle.tj_words.specs.CallLaws.StepCalls as call
 use Rattle.tj_words.specs.CallLaws.StepLogs.{entry_of}
 use Rattle.tj_words.specs.Words.Phases.{phase_word}
+use Rattle.tj_words.specs.Words.StopWords.{stop_word}
+use Rattle.tj_words.specs.declared.stop.Stop.TheVariants.{Memory}
 use Rattle.tj_words.specs.declared.phase.Walk.{Walk}
 use Rattle.tj_words.specs.declared.phase.Walk.TheVariants as walk
 use Rattle.tj_words.specs.declared.phase.Phase.{Phase}
@@ -59,9 +61,9 @@ pub record HasRound (t : ℕ) (turns : List Turn) (log : List Entry) : Type 0 wh
   pub loads : ArePartOf (phase_load t (phase.Waiting cell way walk.Alarmed) ∷ loads_of turns) (in_order log)
   pub back : ComesBack t t turns
 
--- the last step of the log, which stands in front, stored 2 in STOP
+-- the last step of the log, which stands in front, stored in STOP that memory is lacking: 2
 abbrev pub StopsLast : List Entry → Type 0
-StopsLast log = (before : List Entry) × (log ≡ entry_of call.stops 2 0 2 ∷ before)
+StopsLast log = (before : List Entry) × (log ≡ entry_of call.stops (stop_word Memory) 0 (stop_word Memory) ∷ before)
 
 -- the log has gone on
 abbrev pub GrowsTo : List Entry → List Entry → Type 0

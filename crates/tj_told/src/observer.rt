@@ -25,7 +25,7 @@ use std::thread::Parker;
 use std::time::Duration;
 use tj_base::{CellId, Name, Oom};
 use tj_body::Body;
-use tj_words::{Laid, Once, Phase, WSeat, Walk};
+use tj_words::{Laid, Once, Phase, Stop, WSeat, Walk};
 
 /// What a look came to, and how an observer leaves.
 #[derive(Clone, Copy)]
@@ -74,7 +74,7 @@ pub(crate) fn observe<B: Body, T: Listener, R: Wait>(
             Sight::GoesOn => bell.park_timeout(rt, Duration::from_millis(u64::from(every))),
             Sight::Ended => return (seat, telling, sight),
             Sight::Stops | Sight::Wants => {
-                laid.stop(&mut seat, 2);
+                laid.stop(&mut seat, Stop::Memory.word());
                 return (seat, telling, sight);
             }
         }

@@ -21,7 +21,7 @@ ghost use Rattle.std.specs.Prelude.{Option, None, Some};
 ghost use Rattle.tj_log.specs.Shown.{SeatShown};
 ghost use Rattle.tj_record.specs.declared.record.Rec.{Rec};
 ghost use Rattle.tj_words.specs.declared.view.View.{View};
-ghost use Rattle.tj_words.specs.AtRest.EndedRuns.{EndsRun};
+ghost use Rattle.tj_words.specs.AtRest.EndedRuns.{EndsRun, RestEndsRun};
 ghost use Rattle.tj_words.specs.Law.{IsRooted};
 ghost use Rattle.tj_words.specs.LawParts.FirstState.{first_view};
 ghost use Rattle.tj_words.specs.LawParts.Lots.{least_lot};
@@ -203,8 +203,8 @@ fn ended<B: Body>(
         (first_view laid.cells laid.root.value laid.strict) seat.me }
     ensures rest { IfOk result (RestsAt (program_of B.places B.awaits B.left B.asks B.then)
         laid.root.value laid.cells laid.strict) }
-    ensures ends { IfOk result (λ rest. EndsRun (program_of B.places B.awaits B.left B.asks B.then)
-        laid.cells laid.strict laid.root.value seat rest.cells rest.records) }
+    ensures ends { IfOk result (RestEndsRun (program_of B.places B.awaits B.left B.asks B.then)
+        laid.cells laid.strict laid.root.value seat) }
     ensures ended { IfErr result (λ fault. (cells : List RestCell)
         × (records : List (Option (Rec B))) × EndsRun (program_of B.places B.awaits B.left B.asks
         B.then) laid.cells laid.strict laid.root.value seat cells records) }

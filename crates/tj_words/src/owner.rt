@@ -1,4 +1,4 @@
-//! The owner of a cell, and the word that stands for it. The word PARENT of a cell has the same form.
+//! The owner of a cell, and the word that stands for it.
 ghost use Rattle.std.specs.Prelude.{◌≡◌, ◌≤◌, ◌^◌};
 ghost use Rattle.tj_words.specs.Words.Owners.{owner_word, owner_in, owner_number};
 

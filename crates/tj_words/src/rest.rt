@@ -5,7 +5,7 @@ ghost use Rattle.tj_body.specs.Programs.{program_of};
 ghost use Rattle.tj_words.specs.AtRest.RestingSeats.{MayRest};
 ghost use Rattle.tj_words.specs.AtRest.ClosedCells.{AreAlarmsOnCycles, AreAtRest, AreCyclesAlarmed};
 ghost use Rattle.tj_words.specs.AtRest.ClosedCells.{IsPromise, IsShown};
-ghost use Rattle.tj_words.specs.AtRest.EndedRuns.{EndsRun};
+ghost use Rattle.tj_words.specs.AtRest.EndedRuns.{EndsRun, RestEndsRun};
 ghost use Rattle.tj_words.specs.AtRest.RestMeaning.{HaveMeaning, AreCyclesOfMeaningAlarmed};
 ghost use Rattle.tj_words.specs.AtRest.RestValues.{AreValuesOfMeaning, RefersBelow, value_shown};
 ghost use Rattle.tj_words.specs.AtRest.ShownCells.{AreCellsOf, AreTableWords, cell_of};
@@ -16,6 +16,7 @@ ghost use Rattle.tj_words.specs.Words.Values.{NamesCell};
 ghost use Rattle.std.specs.Slots.{IsFull, slots_items};
 
 use crate::closed::{Closed, RestCell};
+use crate::links::link_cell;
 use crate::offsets::{COUNT, Once, once_at, own_at, phase_at};
 use crate::owner::owner_of_word;
 use crate::phase::Phase;
@@ -171,11 +172,11 @@ impl<B: Body> Laid<B> {
         ensures values { AreValuesOfMeaning (program_of B.places B.awaits B.left B.asks B.then
             self.strict self.root.value) self.cells result.cells result.words }
 
-        // The words and the records are the end of a run of the table from the first state: by step
+        // All words and the records are the end of a run of the table from the first state: by step
         // calls, each of a seat of which what it asks is so, by splits, and by merges of idle
         // seats. The last seat was one of that table.
-        ensures run { EndsRun (program_of B.places B.awaits B.left B.asks B.then) self.cells
-            self.strict self.root.value seat result.cells result.records }
+        ensures run { RestEndsRun (program_of B.places B.awaits B.left B.asks B.then) self.cells
+            self.strict self.root.value seat result }
     {
         rest_is_meaning::<B>();
         meaning_is_last::<B>();
@@ -199,7 +200,7 @@ impl<B: Body> Laid<B> {
         }
     }
 
-    /// Closes the table with a seat, at rest or not, where the run ends before its rest. The records are forgotten.
+    /// Closes the table with a seat, at rest or not, where the run ends before its rest. The records are dropped.
     pub fn leave(self, seat: WSeat<B>) -> Closed
         requires { seat.table_id ≡ self.table.shared.table_id }
         // No more cells were drawn than the table has.
@@ -256,7 +257,7 @@ fn show_cell<B: Body>(
         own: owner_of_word(table.word(own_at(c))),
         phase: Phase::of_word(table.word(phase_at(c))),
         tag: table.word(once_at(c, Once::Tag)),
-        parent: owner_of_word(table.word(once_at(c, Once::Parent))).unwrap_or(CellId(0)),
+        parent: link_cell(table.word(once_at(c, Once::Parent))),
         kid: table.word(once_at(c, Once::Kid)) as u32,
     }
 }

@@ -14,6 +14,8 @@ impl<B: Body> Laid<B> {
         ensures table { result.0.table_id ≡ seat.table_id }
         // So is the second.
         ensures other_table { result.1.table_id ≡ seat.table_id }
+        // The first seat keeps its number.
+        ensures id { result.0.id ≡ seat.id }
         // The first seat's lot is less by the least lot, and all else of it is as before.
         ensures view { result.0.me ≡ (left_half seat.me.0, seat.me.1) }
         // The second seat has the least lot, knows what the first knows, and holds nothing.
@@ -41,6 +43,8 @@ impl<B: Body> Laid<B> {
         requires other_idle { IsIdle b.me.0 }
         // The merged seat is one of the same table.
         ensures table { result.table_id ≡ a.table_id }
+        // It has the first one's number.
+        ensures id { result.id ≡ a.id }
         // It knows what either of the two knew, and has both lots.
         ensures view { result.me ≡ (both a.me.0 b.me.0, []) }
         // It may be merged again.

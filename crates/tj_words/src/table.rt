@@ -58,7 +58,7 @@ impl<B: Body> LogRule<Option<Rec<B>>, View<B>, Key<B>> for Law {
 
     ghost spent = { spent };
 
-    ghost may_join = { λ v w. IsIdle w };
+    ghost may_join = { λ v w. IsIdle v × IsIdle w };
 
     ghost tells = { IsTold (program_of B.places B.awaits B.left B.asks B.then) };
 }

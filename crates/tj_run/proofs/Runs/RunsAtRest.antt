@@ -4,7 +4,7 @@ use Rattle.tj_run.proofs.Prelude.{Option, length, subst, ℕ, ◌∙◌, ◌≡�
 use Rattle.tj_body.specs.Rounds.{IsFull}
 use Rattle.tj_log.specs.Shown.{SeatShown}
 use Rattle.tj_words.specs.AtRest.ClosedCells.{AreAtRest, AreCyclesAlarmed, AreAlarmsOnCycles}
-use Rattle.tj_words.specs.AtRest.EndedRuns.{EndsRun}
+use Rattle.tj_words.specs.AtRest.EndedRuns.{RestEndsRun}
 use Rattle.tj_words.specs.AtRest.RestMeaning.{HaveMeaning, AreCyclesOfMeaningAlarmed}
 use Rattle.tj_words.specs.AtRest.RestShown.{RestShown}
 use Rattle.tj_words.specs.AtRest.RestValues.{AreValuesOfMeaning}
@@ -25,24 +25,26 @@ module _ {B : Type 0} (program : Bool → B → Program B) (root : B) (cells : �
       (subst (λ x. F laid.cells (program laid.strict x)) of_root h))
 
   ends_its_run : (seat : SeatShown (Option (Rec B)) (View B)) (r : RestShown B)
-      → EndsRun program laid.cells laid.strict laid.root.value seat r.cells r.records
-      → EndsItsRun program root cells strict r
-  ends_its_run seat r e = (
+      → RestEndsRun program laid.cells laid.strict laid.root.value seat r → EndsItsRun program root cells strict r
+  ends_its_run seat r rests = let e = rests.ends in (
     seat,
     record {
-      key = e.key;
-      key_cells = e.key_cells ∙ of_cells;
-      key_strict = e.key_strict ∙ of_strict;
-      key_root = e.key_root ∙ of_root;
-      last = e.last;
-      run = e.run;
-      seat_is = e.seat_is;
-      log = e.log;
-      took = e.took;
-      befores = e.befores;
-      took_befores = e.took_befores;
-      shown = subst (λ n. AreCellsOf e.last.words n r.cells) of_cells e.shown;
-      home = e.home;
+      ends = record {
+        key = e.key;
+        key_cells = e.key_cells ∙ of_cells;
+        key_strict = e.key_strict ∙ of_strict;
+        key_root = e.key_root ∙ of_root;
+        last = e.last;
+        run = e.run;
+        seat_is = e.seat_is;
+        log = e.log;
+        took = e.took;
+        befores = e.befores;
+        took_befores = e.took_befores;
+        shown = subst (λ n. AreCellsOf e.last.words n r.cells) of_cells e.shown;
+        home = e.home;
+      };
+      words = rests.words;
     },
   )
 
@@ -55,8 +57,7 @@ module _ {B : Type 0} (program : Bool → B → Program B) (root : B) (cells : �
       → AreCyclesOfMeaningAlarmed (program laid.strict laid.root.value) laid.cells r.cells
       → AreValuesOfMeaning (program laid.strict laid.root.value) laid.cells r.cells r.words
       → (seat : SeatShown (Option (Rec B)) (View B))
-      → EndsRun program laid.cells laid.strict laid.root.value seat r.cells r.records
-      → RestsAt program root cells strict r
+      → RestEndsRun program laid.cells laid.strict laid.root.value seat r → RestsAt program root cells strict r
   rests_at r limit root_is strict_is drawn rest meaning cycles alarms meant values seat ends = record {
     names_limit = limit ∙ of_cells;
     names_root = root_is ∙ of_root;

@@ -98,7 +98,8 @@ module _ {B : Type 0} (program : Bool → B → Program B) (key : Key B) where
       other_at = x.other_at;
       after = x.after;
     };
-    idle = x.may;
+    by_idle = x.may.0;
+    idle = x.may.1;
   }
 
   -- one moment more

@@ -2,8 +2,8 @@
 use Rattle.tj_words.proofs.Prelude.{CellId, IsPhaseWord, List, None, Option, Phase, Walk, Way, [], ap, arith, at_longer}
 use Rattle.tj_words.proofs.Prelude.{cell, dite, get_elem?, get_or, length, maker_in, owner_in, phase_in, phase_word}
 use Rattle.tj_words.proofs.Prelude.{refl, some, some-injective, some-ne-none, subst, suc, sym, task_in, word, zero, ℕ}
-use Rattle.tj_words.proofs.Prelude.{ℕ_discrete, ◌*◌, ◌++◌, ◌+◌, ◌/◌, ◌<◌, ◌↔◌, ◌∙◌, ◌∷◌, ◌≡◌, ◌≤◌}
-use Rattle.std.specs.Option.{unwrap_or, option_map}
+use Rattle.tj_words.proofs.Prelude.{ℕ_discrete, ◌*◌, ◌++◌, ◌+◌, ◌-◌, ◌/◌, ◌<◌, ◌↔◌, ◌∙◌, ◌∷◌, ◌≡◌, ◌≤◌}
+use Rattle.std.specs.Option.{option_map}
 use Rattle.tj_words.specs.Words.Owners.{owner_number}
 use Rattle.tj_words.specs.Words.Phases.{wait_code}
 use Rattle.atomic_table.proofs.Lists.{at_last}
@@ -20,9 +20,9 @@ pub owner_is : (o : Option CellId) (w : ℕ) → owner_number o ≡ owner_in w �
 owner_is o w e = grind arith
 
 -- a maker read from PARENT
-pub maker_is : (o : Option CellId) (w : ℕ) (c : CellId) → owner_number o ≡ owner_in w
-    → c ≡ unwrap_or o (cell 0) → c ≡ maker_in w
-maker_is o w c e m = grind arith
+pub maker_is : (w : ℕ) (c : CellId) → c.0 ≡ w - 1 → c ≡ maker_in w
+maker_is zero c e = ap cell e
+maker_is (suc w) c e = let q : c.0 ≡ w = omega (arith, e) in ap cell q
 
 wait_code_small : (y : Way) (w : Walk) → wait_code y w ≤ 14
 wait_code_small y w = grind arith

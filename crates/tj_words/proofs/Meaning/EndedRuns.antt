@@ -5,7 +5,8 @@ use Rattle.tj_log.specs.Asks.{Ended}
 use Rattle.tj_log.specs.Runs.{Past, befores_of, log_of, took_befores_of, took_of}
 use Rattle.tj_log.specs.Shown.{SeatShown}
 use Rattle.tj_words.proofs.Calls.LoggedRuns.{ran}
-use Rattle.tj_words.specs.AtRest.EndedRuns.{EndsRun}
+use Rattle.tj_words.specs.AtRest.EndedRuns.{EndsRun, RestEndsRun}
+use Rattle.tj_words.specs.AtRest.RestShown.{RestShown}
 use Rattle.tj_words.specs.CallLaws.StepLogs.{table_terms}
 
 pub ends_run : {B : Type 0} (program : Bool → B → Program B) (key : Key B) (seat : SeatShown (Option (Rec B)) (View B))
@@ -28,3 +29,12 @@ ends_run {B = B} program key seat e {limit = limit} a b c {shown = shown} are =
       shown = subst (λ w. AreCellsOf w limit shown) (sym e.6) are;
       home = e.8;
     }
+
+-- and so it came to all words of a table closed at rest
+pub rest_ends_run : {B : Type 0} (program : Bool → B → Program B) (key : Key B)
+    (seat : SeatShown (Option (Rec B)) (View B)) (r : RestShown B)
+    → Ended (table_terms program key) seat r.words r.records
+    → {limit : ℕ} {strict : Bool} {root : B} → key.cells ≡ limit → key.strict ≡ strict → key.root.value ≡ root
+    → AreCellsOf r.words limit r.cells → RestEndsRun program limit strict root seat r
+unfolding ends_run
+rest_ends_run program key seat r e a b c are = record { ends = ends_run program key seat e a b c are; words = e.6 }

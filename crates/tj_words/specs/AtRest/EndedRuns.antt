@@ -10,6 +10,7 @@ use Rattle.tj_words.specs.declared.closed.RestCell.{RestCell}
 use Rattle.tj_record.specs.declared.record.Rec.{Rec}
 use Rattle.tj_words.specs.declared.table.Key.{Key}
 use Rattle.tj_words.specs.declared.view.View.{View}
+use Rattle.tj_words.specs.AtRest.RestShown.{RestShown}
 use Rattle.tj_words.specs.AtRest.ShownCells.{AreCellsOf}
 use Rattle.tj_words.specs.CallLaws.LoggedRuns.{HasRun}
 
@@ -34,3 +35,9 @@ pub record EndsRun {B : Type 0} (program : Bool → B → Program B) (limit : �
   pub shown : AreCellsOf last.words limit cells
   -- what lies at home is what the slot has
   pub home : (c : ℕ) (r : Option (Rec B)) → get_elem? last.homes c ≡ some (some r) → get_elem? records c ≡ some r
+
+-- So it is of a table closed at rest, of which all words are at hand: each of them is the one that the run ended with.
+pub record RestEndsRun {B : Type 0} (program : Bool → B → Program B) (limit : ℕ) (strict : Bool) (root : B)
+    (seat : SeatShown (Option (Rec B)) (View B)) (r : RestShown B) : Type 0 where
+  pub ends : EndsRun program limit strict root seat r.cells r.records
+  pub words : ends.last.words ≡ r.words

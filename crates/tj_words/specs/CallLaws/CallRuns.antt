@@ -67,9 +67,10 @@ module _ {B : Type 0} where
   abbrev pub SwapActs : ℕ → Phase → Act (Option (Rec B)) → Type 0
   SwapActs t to a = (to ≡ phase.Running → (r : Rec B) × (a ≡ takes t (Some r))) × (to ≡ phase.Ready → a ≡ keeps)
 
-  -- an idle seat is taken in
+  -- an idle seat is taken in, by an idle one
   pub record IsIdleMerge (s t : State (Option (Rec B)) (View B)) : Type 0 where
     pub merge : IsMerge s t
+    pub by_idle : IsIdle merge.view
     pub idle : IsIdle merge.taken
 
 -- the events of a store of this phase of t

@@ -100,4 +100,4 @@ module _ {B : Type 0} where
   abbrev pub table_terms : (Bool → B → Program B) → Key B → Terms (Option (Rec B)) (View B)
   table_terms program key = terms_of (Rule program key) (IsTold program key) left_half right_half both spent
       (λ ws xs. (ws ≡ first_words key.cells) × (xs ≡ first_slots key.cells key.root.value))
-      (first_view key.cells key.root.value key.strict) (λ v w. IsIdle w)
+      (first_view key.cells key.root.value key.strict) (λ v w. IsIdle v × IsIdle w)

@@ -22,7 +22,7 @@ pub returns-in-Rested-clause-watched : goal.returns-in-Rested-clause-watched
 returns-in-Rested-clause-watched g c = let b = g.B.Body in let made = c.in_ok-ends.ensures in
     let all = c.work_watched-seat in
     let watched = all.ensures.watched in let is = c.in-Rested.is in
-    root_closed c.rest.ensures.run
+    root_closed c.rest.ensures.run.ends
     (rest_may (program_of b.places b.awaits b.left b.asks b.then) c.in_ok-ends.seat.me made.view all.result.0.me is
     all.ensures.left)
     watched.given (watched.taken is).2 all.result.2 c.in_ok-ends.seat.me.0 watched.watch (watched.runs_on is)

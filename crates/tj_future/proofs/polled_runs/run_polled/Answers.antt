@@ -22,7 +22,7 @@ pub returns-in-Rested-clause-answer : goal.returns-in-Rested-clause-answer
 returns-in-Rested-clause-answer g c = let b = g.B.Body in let made = c.in_ok-ends.ensures in
     let p = program_of b.places b.awaits b.left b.asks b.then in let all = c.in_ok-seat in let e = c.rest.ensures in
     let watched = all.ensures.watched in let is = c.in-Rested.is in
-    answer_closed e.run (rest_may p c.in_ok-ends.seat.me made.view all.seat.me is all.ensures.left)
+    answer_closed e.run.ends (rest_may p c.in_ok-ends.seat.me made.view all.seat.me is all.ensures.left)
     c.rest_is_meaning.ensures c.meaning_is_last.ensures c.rest.result.words e.values c.args.p.0 watched.given
     (watched.taken is).2 all.answer c.in_ok-ends.seat.me.0 watched.watch (watched.runs_on is)
 

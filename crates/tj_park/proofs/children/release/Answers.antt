@@ -2,6 +2,7 @@ use Rattle.tj_park.proofs.Prelude.{MayRaiseLive, MayRelease, SeatMe, ap, live_ra
 use Rattle.std.proofs.Common.{◌∷◌}
 use Rattle.tj_words.specs.CallLaws.StepCalls as call
 use Rattle.tj_words.specs.CallLaws.StepLogs.{entry_of}
+use Rattle.tj_park.specs.ChildViews.{child_home}
 use Rattle.tj_park.proofs.LeftTasks.{raise_child, ready_child, child_released}
 use Rattle.tj_park.proofs.children.release.Goals as goal
 
@@ -30,3 +31,13 @@ returns-clause-log g c = let up = c.live_up.ensures.log in let put = c.put_phase
       (up.1.0 ∙ ap (λ l. entry_of call.raises_live 1 0 n ∷ l) c.slot_swap.ensures.log.0),
   put.1 ∙ (up.1.1 ∙ c.slot_swap.ensures.log.1),
 )
+
+pub returns-clause-before : goal.returns-clause-before
+returns-clause-before g c = let laid = c.slot_swap.ensures in let up = c.live_up.ensures in
+    let put = c.put_phase.ensures.before in let v = c.args.seat.now.me.0 in (
+      put.0
+          ∙ (ap (λ (z : SeatMe _). z.0 ∷ c.live_up.new.seat.befores) (up.me ∙ ap live_raised laid.me)
+          ∙ ap (λ l. child_home c.args.t.0 c.args.rec v ∷ l) (up.before.0
+          ∙ (ap (λ (z : SeatMe _). z.0 ∷ c.slot_swap.new.seat.befores) laid.me ∙ ap (λ l. v ∷ l) laid.before.0))),
+      put.1 ∙ (up.before.1 ∙ laid.before.1),
+    )

@@ -18,6 +18,7 @@ watch_line-requires c = watch_tells (script_program c.args.rest.strict c.args.re
     c.in_ok-outcome.ensures.outcome c.args.watched c.requires.watched
 
 pub returns : goal.returns
-returns c = closed_at_rest script_program Root c.args.rest c.in_ok-outcome.outcome _ _ _ c.requires.rest
+returns c = closed_at_rest (script_program c.args.rest.strict c.args.rest.root).rules Root c.args.rest
+    c.in_ok-outcome.outcome _ _ _ c.requires.rest
     c.in_ok-outcome.ensures.outcome (c.in_ok-outcome.ensures.alarmed c.requires.rest.meant_cycles)
     (c.status_of-status.ensures ∙ ap status_of c.marked.ensures) c.in_ok-text.ensures c.into_closed_at_end.ensures.same

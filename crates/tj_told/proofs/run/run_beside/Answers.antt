@@ -3,7 +3,7 @@ use Rattle.tj_body.specs.Programs.{program_of}
 use Rattle.tj_run.proofs.Runs.RunsAtRest.{full_told}
 use Rattle.tj_run.specs.declared.why.Why.TheVariants as why
 use Rattle.tj_words.specs.LawParts.FirstState.{first_view}
-use Rattle.tj_told.proofs.RunFaults.{both_ok, ends_on, err_is, no_end}
+use Rattle.tj_told.proofs.RunFaults.{both_ok, ends_on, err_is, no_end, rest_ends_on}
 use Rattle.tj_told.proofs.TakenSeats.{rested_so}
 use Rattle.tj_told.specs.declared.fault.ToldFault.{ToldFault}
 use Rattle.tj_told.proofs.run.run_beside.Goals as goal
@@ -26,8 +26,8 @@ returns-clause-seen g c none = let b = g.B.Body in let w = c.work_told-seat in l
     let p = program_of b.places b.awaits b.left b.asks b.then in
     both_ok c.ended.result (λ rest h k. (
       w.result.0,
-      ends_on p m.0.cells o.cells m.0.strict o.strict m.0.root.value c.args.root w.result.0 rest.cells rest.records
-          e.cells e.strict e.root h,
+      rest_ends_on p m.0.cells o.cells m.0.strict o.strict m.0.root.value c.args.root w.result.0 rest e.cells e.strict
+          e.root h,
       w.ensures.seen none,
     )) c.ended.ensures.ends c.ended.ensures.ends
 

@@ -18,8 +18,8 @@ of_word-requires-clause-cell g c = let e = read_at _ c.phase_at.ensures.word c.w
     (phase_cell c.args.cells _ (c.requires.words.codes.each c.args.c.0 c.requires.cell).phase) in
     let few = c.requires.words.few in omega arith
 
-pub owner_of_word-requires-2 : goal.owner_of_word-requires-2
-owner_of_word-requires-2 g c = let e = read_at _ c.once_at-2.ensures.word c.word-4.ensures in
+pub link_cell-requires : goal.link_cell-requires
+link_cell-requires g c = let e = read_at _ c.once_at-2.ensures.word c.word-4.ensures in
     let h = (c.requires.words.codes.each c.args.c.0 c.requires.cell).parent in let few = c.requires.words.few in
     omega (arith, e, h, few)
 
@@ -37,7 +37,6 @@ returns g c =
       own = (owner_is c.owner_of_word.result c.word.result c.owner_of_word.ensures.owner ∙ ap task_in own) j;
       phase = (c.of_word.ensures.phase ∙ ap phase_in phase) j;
       tag = tag j;
-      parent = (maker_is c.owner_of_word-2.result c.word-4.result c.unwrap_or.result
-          c.owner_of_word-2.ensures.owner c.unwrap_or.ensures ∙ ap maker_in parent) j;
+      parent = (maker_is c.word-4.result c.link_cell.result c.link_cell.ensures ∙ ap maker_in parent) j;
       kid = kid j;
     }

@@ -37,4 +37,4 @@ pub returns-clause-run : goal.returns-clause-run
 returns-clause-run c = let r = c.self.inside.rest in let e = c.self.invariant.run in
     subst (λ z. AreEndOfRun script_program z.root z.limit z.strict c.into_closed.result) c.self.view_is
     (subst (AreEndOfRun script_program r.root r.limit r.strict) (sym c.into_closed.ensures.same)
-    (e.0, r.records, e.1))
+    (e.0, r.records, e.1.ends))

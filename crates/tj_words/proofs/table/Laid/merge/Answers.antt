@@ -9,5 +9,5 @@ join_seat-requires g c = let a = c.args in (
   c.requires.slots.1,
   omega (arith, a.self.now.words),
   rule_joins _ a.self.now.table.shared.key a.a.id a.a.me.0 a.b.id a.b.me.0 c.requires.idle c.requires.other_idle,
-  c.requires.other_idle,
+  (c.requires.idle, c.requires.other_idle),
 )

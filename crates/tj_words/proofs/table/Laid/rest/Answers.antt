@@ -1,5 +1,5 @@
 use Rattle.tj_words.proofs.Prelude.{arith, refl, slots_items}
-use Rattle.tj_words.proofs.Meaning.EndedRuns.{ends_run}
+use Rattle.tj_words.proofs.Meaning.EndedRuns.{rest_ends_run}
 use Rattle.tj_words.proofs.Meaning.MeantCycles.{meant_cycles_alarmed}
 use Rattle.tj_words.proofs.Meaning.Rested.{final_words, rested}
 use Rattle.tj_words.proofs.table.Laid.rest.Goals as goal
@@ -30,7 +30,7 @@ returns g c = let a = c.args.self in let shown = c.show_cells-shown.ensures in l
       alarms = r.alarms;
       meant_cycles = meant_cycles_alarmed _ _ _ r.cycles;
       values = r.values;
-      run = ends_run _ a.table.shared.key c.args.seat c.close_with-table.ensures.run a.key_cells a.key_strict
+      run = rest_ends_run _ a.table.shared.key c.args.seat _ c.close_with-table.ensures.run a.key_cells a.key_strict
           a.key_root shown;
     }
 

@@ -1,8 +1,8 @@
-use Rattle.std.proofs.Common.{All, Global, Vec, ap, length-set, rules, set, sym, ◌∙◌, ◌≡◌}
+use Rattle.std.proofs.Common.{All, Global, Vec, ap, length-set, rules, set, ◌∙◌, ◌≡◌}
 use Rattle.std.proofs.lemmas.List.{with_items_is}
 use Rattle.std.proofs.lemmas.List.Elements.{All-same, All-set}
-use Rattle.tj_future.proofs.beginning.begun.Goals as goal
-use Rattle.tj_future.proofs.beginning.begun.Goals.{in-Some+in_ok-put, in_default}
+use Rattle.tj_run.proofs.beginning.begun.Goals as goal
+use Rattle.tj_run.proofs.beginning.begun.Goals.{in-Some+in_ok-put, in_default}
 
 pub returns-clause-limit : goal.returns-clause-limit
 returns-clause-limit g c =
