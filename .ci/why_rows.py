@@ -314,8 +314,41 @@ FAULTS = (
      "script fault P1 at 3:3\n  return x;\n  ^\nreturn stands here: ; is missing after 2:12\n"),
     ("and in front of an assignment", "--all", "task main() {\n  let x = 1\n  x = 2;\n}\n",
      "script fault P1 at 3:3\n  x = 2;\n  ^\nx stands here: ; is missing after 2:11\n"),
-    ("an operator or a semicolon: nothing is said", "", "task main() { print 1 2; }",
-     "script fault P1 at 1:23\ntask main() { print 1 2; }\n                      ^\n2 stands here, which can't follow\n"),
+    ("an operator or a semicolon", "", "task main() { print 1 2; }",
+     "script fault P1 at 1:23\ntask main() { print 1 2; }\n                      ^\n"
+     "2 stands here: an operator or ; is wanted\n"),
+    ("a number behind new", "", "task main() { let p = new 5; }",
+     "script fault P1 at 1:27\ntask main() { let p = new 5; }\n                          ^\n"
+     "5 stands here: ; is wanted\n"),
+    ("a sum with what a get gives", "", "task main() { let p = get me + 1; }",
+     "script fault P1 at 1:30\ntask main() { let p = get me + 1; }\n                             ^\n"
+     "+ stands here: ; or the keyword or is wanted\n"),
+    ("a comparison of a comparison, in a head", "", "task main() { if 1 < 2 < 3 { } }",
+     "script fault P1 at 1:24\ntask main() { if 1 < 2 < 3 { } }\n                       ^\n"
+     "< stands here: an arithmetic operator or { is wanted\n"),
+    ("the same in a parenthesis, of an argument", "", "task main() { fork f(1 < (2 == 3 > 4)); }",
+     "script fault P1 at 1:34\ntask main() { fork f(1 < (2 == 3 > 4)); }\n                                 ^\n"
+     "> stands here: an arithmetic operator or ) is wanted\n"),
+    ("arguments without a comma", "", "task main() { fork f(1 < 2, (2) 3); }",
+     "script fault P1 at 1:33\ntask main() { fork f(1 < 2, (2) 3); }\n                                ^\n"
+     "3 stands here: an operator, a comma or ) is wanted\n"),
+    ("no argument in front of a comma", "", "task main() { fork f(, 1); }",
+     "script fault P1 at 1:22\ntask main() { fork f(, 1); }\n                     ^\n"
+     ", stands here: an argument or ) is wanted\n"),
+    ("a parameter that is no name", "", "task main(1) { }",
+     "script fault P1 at 1:11\ntask main(1) { }\n          ^\n1 stands here: a name or ) is wanted\n"),
+    ("parameters without a comma", "", "task f(a b) { }",
+     "script fault P1 at 1:10\ntask f(a b) { }\n         ^\nb stands here: a comma or ) is wanted\n"),
+    ("a number behind a task's head", "", "task main() 1 { }",
+     "script fault P1 at 1:13\ntask main() 1 { }\n            ^\n1 stands here: { is wanted\n"),
+    ("no statement, and no else, behind an if", "", "task main() { while 1 { if 1 { } ) } }",
+     "script fault P1 at 1:34\ntask main() { while 1 { if 1 { } ) } }\n                                 ^\n"
+     ") stands here: else, a statement or } is wanted\n"),
+    ("no statement behind an else", "", "task main() { if 1 { } else { } ) }",
+     "script fault P1 at 1:33\ntask main() { if 1 { } else { } ) }\n                                ^\n"
+     ") stands here: a statement or } is wanted\n"),
+    ("a brace too many", "", "task main() { } }",
+     "script fault P1 at 1:17\ntask main() { } }\n                ^\n} stands here: a task or the end is wanted\n"),
     ("a block is open where a task begins", "", "task main() {\n  if 1 {\n    print 1;\n}\ntask f() { }\n",
      "script fault P1 at 5:1\ntask f() { }\n^\n"
      "task stands here: } is missing, for the block that begins at 1:13\n"),
@@ -331,7 +364,7 @@ FAULTS = (
     ("no parameters behind a task's name", "", "task main { }",
      "script fault P1 at 1:11\ntask main { }\n          ^\n{ stands here: ( is missing after 1:9\n"),
     ("no task", "", "print 1;",
-     "script fault P1 at 1:1\nprint 1;\n^\nprint stands here: a task is wanted\n"),
+     "script fault P1 at 1:1\nprint 1;\n^\nprint stands here: a task or the end is wanted\n"),
     ("an ask in an expression", "", "task main() { return fork main(); }",
      "script fault P1 at 1:22\ntask main() { return fork main(); }\n                     ^\n"
      "fork stands here: an expression is wanted\n"),

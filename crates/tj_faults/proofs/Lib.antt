@@ -1,3 +1,4 @@
 pub mod LinesMore
 pub mod JoinedTexts
 pub mod SourceLines
+mod TokenLines

@@ -8,7 +8,7 @@ use Rattle.tj_lex.specs.Bytes.{line_feed, stays_on_line}
 use Rattle.tj_faults.specs.Carets.{behind_lines, first_longer, lines_of, next_line}
 
 -- the lines of a text with one byte more in front, if this is a line feed or not
-abbrev lines_by : ℕ → List ℕ → Bool → List (List ℕ)
+abbrev pub lines_by : ℕ → List ℕ → Bool → List (List ℕ)
 lines_by b text t = cond t ([] ∷ lines_of text) (first_longer b (lines_of text))
 
 -- a text with a line feed is its first line and those behind it
@@ -90,7 +90,7 @@ first_is b [] = refl
 first_is b (l ∷ ls) = refl
 
 -- the others stay
-others_are : (b : ℕ) (ls : List (List ℕ)) (n : ℕ) → slice_get (first_longer b ls) (suc n) ≡ slice_get ls (suc n)
+pub others_are : (b : ℕ) (ls : List (List ℕ)) (n : ℕ) → slice_get (first_longer b ls) (suc n) ≡ slice_get ls (suc n)
 others_are b [] n = refl
 others_are b (l ∷ ls) n = refl
 

@@ -16,6 +16,8 @@ use Rattle.tj_faults.specs.Carets.{fault_text, line_at}
 use Rattle.tj_faults.specs.Fronts.{from_place, front_of, last_of}
 use Rattle.tj_faults.specs.Spots.{place_text}
 use Rattle.tj_faults.specs.Wanted.{is_task, wanted_at}
+use Rattle.tj_faults.specs.declared.wanted.Ending.{Ending}
+use Rattle.tj_faults.specs.declared.wanted.Ending.TheVariants as ending
 use Rattle.tj_faults.specs.declared.wanted.Lacking.{Lacking}
 use Rattle.tj_faults.specs.declared.wanted.Lacking.TheVariants as lacking
 use Rattle.tj_faults.specs.declared.wanted.Wanted.{Wanted}
@@ -47,18 +49,45 @@ abbrev pub after_text : Option Token → List ℕ
 after_text None = []
 after_text (Some t) = codes " after " ++ last_byte t
 
--- what was wanted, if it is no mark
+-- an operator was wanted, or what ends what is open
+abbrev pub operator_words : Ending → List ℕ
+operator_words ending.Paren = codes ": an operator or ) is wanted"
+operator_words ending.Comma = codes ": an operator, a comma or ) is wanted"
+operator_words ending.Brace = codes ": an operator or { is wanted"
+operator_words ending.Semi = codes ": an operator or ; is wanted"
+
+-- an operator that compares nothing was wanted, or what ends what is open
+abbrev pub arithmetic_words : Ending → List ℕ
+arithmetic_words ending.Paren = codes ": an arithmetic operator or ) is wanted"
+arithmetic_words ending.Comma = codes ": an arithmetic operator, a comma or ) is wanted"
+arithmetic_words ending.Brace = codes ": an arithmetic operator or { is wanted"
+arithmetic_words ending.Semi = codes ": an arithmetic operator or ; is wanted"
+
+-- what ends what is open was wanted
+abbrev pub only_words : Ending → List ℕ
+only_words ending.Paren = codes ": ) is wanted"
+only_words ending.Comma = codes ": a comma or ) is wanted"
+only_words ending.Brace = codes ": { is wanted"
+only_words ending.Semi = codes ": ; is wanted"
+
+-- what was wanted, if it is no mark that is missing
 abbrev pub plain_words : Wanted → List ℕ
 plain_words wanted.Name = codes ": a name is wanted"
 plain_words wanted.Reference = codes ": a name or me is wanted"
 plain_words wanted.Expression = codes ": an expression is wanted"
 plain_words wanted.Value = codes ": an expression or an ask is wanted"
 plain_words wanted.Argument = codes ": an argument is wanted"
+plain_words wanted.NameOrParen = codes ": a name or ) is wanted"
+plain_words wanted.ArgumentOrParen = codes ": an argument or ) is wanted"
+plain_words wanted.Or = codes ": ; or the keyword or is wanted"
+plain_words (wanted.Operator ends) = operator_words ends
+plain_words (wanted.Arithmetic ends) = arithmetic_words ends
+plain_words (wanted.Only ends) = only_words ends
 plain_words wanted.Statement = codes ": a statement or } is wanted"
-plain_words wanted.Task = codes ": a task is wanted"
+plain_words wanted.StatementOrElse = codes ": else, a statement or } is wanted"
+plain_words wanted.Task = codes ": a task or the end is wanted"
 plain_words (wanted.Missing mark) = []
 plain_words (wanted.Closed p) = []
-plain_words wanted.Unknown = codes ", which can't follow"
 
 -- what was wanted, behind the token in front
 abbrev pub wanted_text : Option Token → Wanted → List ℕ

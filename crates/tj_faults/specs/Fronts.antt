@@ -6,6 +6,7 @@ use Rattle.tj_lex.specs.declared.place.Place.{Place}
 use Rattle.tj_lex.specs.declared.token.Token.{Token}
 use Rattle.tj_lex.specs.declared.token.Tok.{Tok}
 use Rattle.tj_lex.specs.declared.token.Tok.TheVariants as toks
+use Rattle.tj_lex.specs.declared.token.Key.TheVariants as k
 use Rattle.tj_lex.specs.declared.token.Mark.TheVariants as m
 
 -- the token stands at this position
@@ -87,3 +88,59 @@ blocks_after opened (t ∷ ts) = blocks_after (blocks_behind opened t) ts
 -- where the innermost block begins that is open behind tokens
 abbrev pub open_block : List Token → Option Place
 open_block ts = let opened = blocks_after [] ts in slice_get opened (length opened - 1)
+
+-- the token compares two sides
+abbrev pub is_comparison : Tok → Bool
+is_comparison (toks.Mark m.Eq) = true
+is_comparison (toks.Mark m.Ne) = true
+is_comparison (toks.Mark m.Lt) = true
+is_comparison (toks.Mark m.Le) = true
+is_comparison (toks.Mark m.Gt) = true
+is_comparison (toks.Mark m.Ge) = true
+is_comparison t = false
+
+-- the token is `(` or a comma
+abbrev pub begins_one : Tok → Bool
+begins_one (toks.Mark m.ParenOpen) = true
+begins_one (toks.Mark m.Comma) = true
+begins_one t = false
+
+-- whether a comparison stands in an expression behind a token in it, or behind one with which another expression begins
+abbrev pub compared_behind : Bool → Tok → Bool
+compared_behind compared t = cond (is_comparison t) true (cond (begins_one t) false compared)
+
+-- Whether a comparison stands in the expression with which tokens end, outside of its parentheses. Behind the tokens so
+-- many parentheses are open, and in front of them so many.
+abbrev pub compared_after : ℕ → ℕ → Bool → List Token → Bool
+compared_after at_end opened compared [] = compared
+compared_after at_end opened compared (t ∷ ts) =
+    let behind = parens_behind opened t.what in
+    compared_after at_end behind (cond (nat_eq behind at_end) (compared_behind compared t.what) compared) ts
+
+-- the tokens in front of the last
+abbrev pub but_last : List Token → List Token
+but_last ts = take (length ts - 1) ts
+
+-- the token is there, and closes a block
+abbrev pub closes_at : Option Token → Bool
+closes_at None = false
+closes_at (Some t) = closes_block t.what
+
+-- the token is `if`
+abbrev pub is_if : Tok → Bool
+is_if (toks.Key k.If) = true
+is_if t = false
+
+-- the token is there, and is `if`
+abbrev pub is_if_at : Option Token → Bool
+is_if_at None = false
+is_if_at (Some t) = is_if t.what
+
+-- the block that begins there is that of an `if`
+abbrev pub is_of_if : List Token → Option Place → Bool
+is_of_if ts None = false
+is_of_if ts (Some p) = is_if_at (slice_get (part_of (front_of p ts)) 0)
+
+-- the tokens end with the `}` of an `if`: that closes the block which is open in front of it
+abbrev pub ends_if : List Token → Bool
+ends_if ts = closes_at (last_of ts) && is_of_if ts (open_block (but_last ts))

@@ -6,3 +6,4 @@ pub mod Wanted
 pub mod FaultWords
 pub mod Objects
 pub mod FaultJson
+pub mod TokenLines

@@ -1,5 +1,5 @@
--- What was wanted where a token stands that can't follow, told by the tokens in front of it. It is told where only one
--- thing could stand there, or where one mark has to stand before the token, whatever stands between.
+-- What was wanted where a token stands that can't follow, told by the tokens in front of it: all that can stand there by
+-- the grammar, or the one mark that has to stand before the token, whatever stands between.
 use Rattle.std.specs.Prelude.{ℕ, Bool, true, false, ◌||◌, ◌&&◌, nat_eq, cond, List, slice_get}
 use Rattle.std.specs.Prelude.{Option, Some, None}
 use Rattle.tj_lex.specs.declared.place.Place.{Place}
@@ -8,7 +8,9 @@ use Rattle.tj_lex.specs.declared.token.Tok.{Tok}
 use Rattle.tj_lex.specs.declared.token.Tok.TheVariants as toks
 use Rattle.tj_lex.specs.declared.token.Key.TheVariants as k
 use Rattle.tj_lex.specs.declared.token.Mark.TheVariants as m
-use Rattle.tj_faults.specs.Fronts.{before_last, last_of, open_block, parens_after, part_of}
+use Rattle.tj_faults.specs.Fronts.{before_last, compared_after, ends_if, last_of, open_block, parens_after, part_of}
+use Rattle.tj_faults.specs.declared.wanted.Ending.{Ending}
+use Rattle.tj_faults.specs.declared.wanted.Ending.TheVariants as ending
 use Rattle.tj_faults.specs.declared.wanted.Lacking.{Lacking}
 use Rattle.tj_faults.specs.declared.wanted.Lacking.TheVariants as lacking
 use Rattle.tj_faults.specs.declared.wanted.Wanted.{Wanted}
@@ -23,40 +25,11 @@ names_follow (toks.Key k.Own) = true
 names_follow (toks.Key k.Task) = true
 names_follow t = false
 
--- behind this only an expression can stand
-abbrev pub expressions_follow : Tok → Bool
-expressions_follow (toks.Key k.Print) = true
-expressions_follow (toks.Key k.Return) = true
-expressions_follow (toks.Key k.If) = true
-expressions_follow (toks.Key k.While) = true
-expressions_follow (toks.Key k.Or) = true
-expressions_follow (toks.Mark m.Eq) = true
-expressions_follow (toks.Mark m.Ne) = true
-expressions_follow (toks.Mark m.Lt) = true
-expressions_follow (toks.Mark m.Le) = true
-expressions_follow (toks.Mark m.Gt) = true
-expressions_follow (toks.Mark m.Ge) = true
-expressions_follow (toks.Mark m.Plus) = true
-expressions_follow (toks.Mark m.Minus) = true
-expressions_follow (toks.Mark m.Times) = true
-expressions_follow (toks.Mark m.Over) = true
-expressions_follow (toks.Mark m.Rest) = true
-expressions_follow t = false
-
 -- behind this only a name or `me` can stand
 abbrev pub references_follow : Tok → Bool
 references_follow (toks.Key k.Get) = true
 references_follow (toks.Key k.Join) = true
 references_follow t = false
-
--- with this an expression, an ask or the parentheses of a head can end
-abbrev pub can_end : Tok → Bool
-can_end (toks.Name x) = true
-can_end (toks.Num n) = true
-can_end (toks.Key k.Me) = true
-can_end (toks.Key k.New) = true
-can_end (toks.Mark m.ParenClose) = true
-can_end t = false
 
 -- this stands in no expression, and in none of its parentheses: what is open has to be closed in front of it
 abbrev pub stands_alone : Tok → Bool
@@ -107,6 +80,11 @@ abbrev pub is_set : Tok → Bool
 is_set (toks.Key k.Set) = true
 is_set t = false
 
+-- the token is `own`
+abbrev pub is_own : Tok → Bool
+is_own (toks.Key k.Own) = true
+is_own t = false
+
 -- the token is `fork` or `task`
 abbrev pub has_parens : Tok → Bool
 has_parens (toks.Key k.Fork) = true
@@ -119,54 +97,106 @@ has_value (toks.Key k.Let) = true
 has_value (toks.Key k.Set) = true
 has_value t = false
 
--- the mark with which a part ends that begins with this token and has so many parentheses open
-abbrev pub closing : Tok → ℕ → Lacking
-closing head opened = cond (nat_eq opened 0) (cond (has_block head) lacking.BraceOpen lacking.Semi) lacking.ParenClose
+-- the token is `let`
+abbrev pub is_let : Tok → Bool
+is_let (toks.Key k.Let) = true
+is_let t = false
 
--- the mark that has to stand behind a name with this token in front of it
-abbrev pub behind_name : Option Token → Option Lacking
-behind_name None = Some lacking.Assign
-behind_name (Some t) = cond (has_value t.what) (Some lacking.Assign)
-    (cond (has_parens t.what) (Some lacking.ParenOpen) None)
+-- where the value begins that a statement with this first token assigns, and else where the statement begins
+abbrev pub given_from : Tok → ℕ
+given_from head = cond (is_let head) 3 (cond (is_name head) 2 0)
 
--- the mark is wanted, if there is one
-abbrev pub lacks : Option Lacking → Wanted → Wanted
-lacks None other = other
-lacks (Some mark) other = wanted.Missing mark
+-- the token is there, and is `fork` or `task`
+abbrev pub begins_list : Option Token → Bool
+begins_list None = false
+begins_list (Some t) = has_parens t.what
 
--- what was wanted behind a token with which something can end: the mark for what is open, where something begins anew
-abbrev pub behind_end : Tok → ℕ → Bool → Wanted
-behind_end head opened anew = cond anew (wanted.Missing (closing head opened)) wanted.Unknown
+-- what the part computes, or the part itself, is a fork or a task's head
+abbrev pub has_list : Tok → List Token → Bool
+has_list head part = begins_list (slice_get part (given_from head))
 
--- what was wanted behind a name
-abbrev pub behind_a_name : Option Token → Tok → ℕ → Bool → Wanted
-behind_a_name before head opened anew = lacks (behind_name before) (behind_end head opened anew)
+-- what ends the innermost of what is open: so many parentheses, of which the first is that of a list if there is one
+abbrev pub ending_of : Tok → Bool → ℕ → Ending
+ending_of head lists opened = cond (nat_eq opened 0) (cond (has_block head) ending.Brace ending.Semi)
+    (cond (lists && nat_eq opened 1) ending.Comma ending.Paren)
+
+-- no operator can stand there: in a task's head, and behind the list of a fork
+abbrev pub no_operator : Tok → Bool → ℕ → Bool
+no_operator head lists opened = is_task head || (lists && nat_eq opened 0)
+
+-- what can stand behind an operand, behind a parameter, and behind a list
+abbrev pub behind_whole : Bool → Bool → Ending → Wanted
+behind_whole plain compared ends =
+    cond plain (wanted.Only ends) (cond compared (wanted.Arithmetic ends) (wanted.Operator ends))
+
+-- what can stand behind a name or `me` with this token in front of it
+abbrev pub behind_after : Tok → Ending → Wanted → Wanted
+behind_after before ends whole =
+    cond (has_value before) (wanted.Missing lacking.Assign)
+    (cond (has_parens before) (wanted.Missing lacking.ParenOpen)
+    (cond (references_follow before) wanted.Or
+    (cond (is_own before) (wanted.Only ends) whole)))
+
+-- what can stand behind a name or `me`, with which a part begins if no token stands in front of it
+abbrev pub behind_name : Option Token → Ending → Wanted → Wanted
+behind_name None ends whole = wanted.Missing lacking.Assign
+behind_name (Some t) ends whole = behind_after t.what ends whole
 
 -- the token in front is a name
 abbrev pub is_name_at : Option Token → Bool
 is_name_at None = false
 is_name_at (Some t) = is_name t.what
 
--- what was wanted behind `(`, which stands behind this token
-abbrev pub behind_paren : Option Token → Wanted
-behind_paren before = cond (is_name_at before) wanted.Unknown wanted.Expression
+-- what can stand behind `(`, which stands behind this token, in a part that begins with that one
+abbrev pub behind_paren : Tok → Option Token → Wanted
+behind_paren head before =
+    cond (is_name_at before) (cond (is_task head) wanted.NameOrParen wanted.ArgumentOrParen) wanted.Expression
 
--- what was wanted behind any other token of a part that begins with this token
-abbrev pub behind_mark : Tok → Option Token → Tok → Wanted
-behind_mark head before (toks.Mark m.Assign) = cond (is_set head) wanted.Expression wanted.Value
-behind_mark head before (toks.Mark m.Comma) = cond (is_task head) wanted.Name wanted.Argument
-behind_mark head before (toks.Mark m.ParenOpen) = behind_paren before
-behind_mark head before (toks.Key k.Else) = wanted.Missing lacking.BraceOpen
-behind_mark head before t = wanted.Unknown
+-- what can stand behind a mark
+abbrev pub behind_mark : Tok → Option Token → Tok → Wanted → Wanted
+behind_mark head before (toks.Mark m.Assign) whole = cond (is_set head) wanted.Expression wanted.Value
+behind_mark head before (toks.Mark m.Comma) whole = cond (is_task head) wanted.Name wanted.Argument
+behind_mark head before (toks.Mark m.ParenOpen) whole = behind_paren head before
+behind_mark head before (toks.Mark m.ParenClose) whole = whole
+behind_mark head before mark whole = wanted.Expression
 
--- what was wanted behind the last token of a part
-abbrev pub behind : Tok → Option Token → Tok → ℕ → Bool → Wanted
-behind head before last opened anew =
-    cond (names_follow last) wanted.Name
-    (cond (references_follow last) wanted.Reference
-    (cond (expressions_follow last) wanted.Expression
-    (cond (is_name last) (behind_a_name before head opened anew)
-    (cond (can_end last) (behind_end head opened anew) (behind_mark head before last)))))
+-- what can stand behind a keyword
+abbrev pub behind_key : Option Token → Tok → Ending → Wanted → Wanted
+behind_key before (toks.Key k.New) ends whole = wanted.Only ends
+behind_key before (toks.Key k.Me) ends whole = behind_name before ends whole
+behind_key before (toks.Key k.Else) ends whole = wanted.Missing lacking.BraceOpen
+behind_key before key ends whole =
+    cond (names_follow key) wanted.Name (cond (references_follow key) wanted.Reference wanted.Expression)
+
+-- what can stand behind the last token of a part that begins with the first of these
+abbrev pub behind : Tok → Option Token → Tok → Ending → Wanted → Wanted
+behind head before (toks.Name x) ends whole = behind_name before ends whole
+behind head before (toks.Num n) ends whole = whole
+behind head before (toks.Key key) ends whole = behind_key before (toks.Key key) ends whole
+behind head before (toks.Mark mark) ends whole = behind_mark head before (toks.Mark mark) whole
+behind head before toks.End ends whole = wanted.Expression
+
+-- what can stand behind the last token of a part with so many parentheses open, and with a comparison in the innermost
+abbrev pub behind_part : List Token → Tok → Tok → ℕ → Bool → Wanted
+behind_part part head last opened compared =
+    let lists = has_list head part in
+    let ends = ending_of head lists opened in
+    behind head (before_last part) last ends (behind_whole (no_operator head lists opened) compared ends)
+
+-- the mark that ends what is open
+abbrev pub ending_mark : Ending → Lacking
+ending_mark ending.Paren = lacking.ParenClose
+ending_mark ending.Comma = lacking.ParenClose
+ending_mark ending.Brace = lacking.BraceOpen
+ending_mark ending.Semi = lacking.Semi
+
+-- what was wanted where something begins anew: where what is open can end, the mark that ends it
+abbrev pub ended : Wanted → Wanted
+ended (wanted.Operator ends) = wanted.Missing (ending_mark ends)
+ended (wanted.Arithmetic ends) = wanted.Missing (ending_mark ends)
+ended (wanted.Only ends) = wanted.Missing (ending_mark ends)
+ended wanted.Or = wanted.Missing lacking.Semi
+ended other = other
 
 -- the token is `task` or the end
 abbrev pub ends_tasks : Tok → Bool
@@ -174,21 +204,28 @@ ends_tasks (toks.Key k.Task) = true
 ends_tasks toks.End = true
 ends_tasks t = false
 
--- what was wanted where a part begins, in a block that begins there or in none
-abbrev pub at_start : Option Place → Tok → Wanted
-at_start None t = wanted.Task
-at_start (Some p) t = cond (ends_tasks t) (wanted.Closed p) wanted.Statement
+-- what was wanted where a part begins: in a block that begins there or in none, behind the block of an `if` or not
+abbrev pub at_start : Option Place → Bool → Tok → Wanted
+at_start None after_if t = wanted.Task
+at_start (Some p) after_if t =
+    cond (ends_tasks t) (wanted.Closed p) (cond after_if wanted.StatementOrElse wanted.Statement)
 
--- what was wanted behind a part that begins and ends with these tokens, if it has any
-abbrev pub in_part_of : List Token → Token → Option Token → Option Place → Option Token → Option Token → Wanted
-in_part_of part t next block (Some head) (Some last) =
-    behind head.what (before_last part) last.what (parens_after 0 part) (begins_anew t next)
-in_part_of part t next block head last = at_start block t.what
+-- what was wanted behind a part that begins with this token and ends with that one
+abbrev pub in_part_with : List Token → Tok → Tok → Bool → Wanted
+in_part_with part head last anew =
+    let opened = parens_after 0 part in
+    let can_stand = behind_part part head last opened (compared_after opened 0 false part) in
+    cond anew (ended can_stand) can_stand
 
--- what was wanted behind the part with these tokens
-abbrev pub in_part : List Token → Token → Option Token → Option Place → Wanted
-in_part part t next block = in_part_of part t next block (slice_get part 0) (last_of part)
+-- what was wanted behind a part that begins and ends with these tokens, and what if it has none
+abbrev pub in_part_of : List Token → Token → Option Token → Wanted → Option Token → Option Token → Wanted
+in_part_of part t next start (Some head) (Some last) = in_part_with part head.what last.what (begins_anew t next)
+in_part_of part t next start head last = start
+
+-- what was wanted behind the part with these tokens, and what if it has none
+abbrev pub in_part : List Token → Token → Option Token → Wanted → Wanted
+in_part part t next start = in_part_of part t next start (slice_get part 0) (last_of part)
 
 -- what was wanted behind tokens, where the first of the others can't follow
 abbrev pub wanted_at : List Token → Token → Option Token → Wanted
-wanted_at front t next = in_part (part_of front) t next (open_block front)
+wanted_at front t next = in_part (part_of front) t next (at_start (open_block front) (ends_if front) t.what)

@@ -10,7 +10,7 @@ ghost use Rattle.tj_faults.specs.Wanted as wants;
 use crate::caret::{fault_text, front, line_at};
 use crate::fronts::{from_place, front_of, last_of, token_at};
 use crate::texts::{joined, place_text};
-use crate::wanted::{Lacking, Wanted, is_task, wanted_at};
+use crate::wanted::{Ending, Lacking, Wanted, is_task, wanted_at};
 use std::alloc::Global;
 use tj_base::{Oom, add_count, add_number};
 use tj_lex::{Key, LexFault, Place, Tok, Token};
@@ -82,7 +82,43 @@ fn after_text(alloc: Global, last: Option<&Token>) -> Result<Vec<u8>, Oom>
     joined(alloc, &[b" after ", at.as_slice()])
 }
 
-/// What was wanted, if it is no mark.
+/// An operator was wanted, or what ends what is open.
+fn operator_words(ends: Ending) -> &'static [u8]
+    ensures { result.now ≡ spec.operator_words ends }
+{
+    match ends {
+        Ending::Paren => b": an operator or ) is wanted",
+        Ending::Comma => b": an operator, a comma or ) is wanted",
+        Ending::Brace => b": an operator or { is wanted",
+        Ending::Semi => b": an operator or ; is wanted",
+    }
+}
+
+/// An operator that compares nothing was wanted, or what ends what is open.
+fn arithmetic_words(ends: Ending) -> &'static [u8]
+    ensures { result.now ≡ spec.arithmetic_words ends }
+{
+    match ends {
+        Ending::Paren => b": an arithmetic operator or ) is wanted",
+        Ending::Comma => b": an arithmetic operator, a comma or ) is wanted",
+        Ending::Brace => b": an arithmetic operator or { is wanted",
+        Ending::Semi => b": an arithmetic operator or ; is wanted",
+    }
+}
+
+/// What ends what is open was wanted.
+fn only_words(ends: Ending) -> &'static [u8]
+    ensures { result.now ≡ spec.only_words ends }
+{
+    match ends {
+        Ending::Paren => b": ) is wanted",
+        Ending::Comma => b": a comma or ) is wanted",
+        Ending::Brace => b": { is wanted",
+        Ending::Semi => b": ; is wanted",
+    }
+}
+
+/// What was wanted, if it is no mark that is missing.
 fn plain_words(wanted: Wanted) -> &'static [u8]
     ensures { result.now ≡ spec.plain_words wanted }
 {
@@ -92,10 +128,16 @@ fn plain_words(wanted: Wanted) -> &'static [u8]
         Wanted::Expression => b": an expression is wanted",
         Wanted::Value => b": an expression or an ask is wanted",
         Wanted::Argument => b": an argument is wanted",
+        Wanted::NameOrParen => b": a name or ) is wanted",
+        Wanted::ArgumentOrParen => b": an argument or ) is wanted",
+        Wanted::Or => b": ; or the keyword or is wanted",
+        Wanted::Operator(ends) => operator_words(ends),
+        Wanted::Arithmetic(ends) => arithmetic_words(ends),
+        Wanted::Only(ends) => only_words(ends),
         Wanted::Statement => b": a statement or } is wanted",
-        Wanted::Task => b": a task is wanted",
+        Wanted::StatementOrElse => b": else, a statement or } is wanted",
+        Wanted::Task => b": a task or the end is wanted",
         Wanted::Missing(_) | Wanted::Closed(_) => b"",
-        Wanted::Unknown => b", which can't follow",
     }
 }
 

@@ -1,12 +1,12 @@
 //! What the tokens in front of a fault leave open: the part of a statement or of a head in which the
 //! fault stands, its parentheses, and the blocks around it.
-ghost use Rattle.std.specs.Prelude.{◌≡◌, ◌≤◌, ◌<◌, ◌^◌, [], IfOk, length, slice_get, suc};
+ghost use Rattle.std.specs.Prelude.{◌≡◌, ◌≤◌, ◌<◌, ◌^◌, [], IfOk, false, length, slice_get, suc};
 ghost use Rattle.std.specs.Option.{option_map};
 ghost use Rattle.tj_faults.specs.Fronts as spec;
 
 use std::alloc::Global;
 use tj_base::Oom;
-use tj_lex::{Mark, Place, Tok, Token};
+use tj_lex::{Key, Mark, Place, Tok, Token};
 
 /// Whether the token stands at this position.
 fn stands_at(at: Place, token: &Token) -> bool
@@ -174,4 +174,99 @@ pub fn open_block(alloc: Global, tokens: &[Token]) -> Result<Option<Place>, Oom>
 {
     let opened = blocks_after(alloc, tokens)?;
     Ok(opened.last().copied())
+}
+
+/// Whether the token compares two sides.
+fn is_comparison(what: &Tok) -> bool
+    ensures { result ≡ spec.is_comparison what.now }
+{
+    matches!(
+        what,
+        Tok::Mark(Mark::Eq | Mark::Ne | Mark::Lt | Mark::Le | Mark::Gt | Mark::Ge)
+    )
+}
+
+/// Whether the token is `(` or a comma.
+fn begins_one(what: &Tok) -> bool
+    ensures { result ≡ spec.begins_one what.now }
+{
+    matches!(what, Tok::Mark(Mark::ParenOpen | Mark::Comma))
+}
+
+/// Whether a comparison stands in an expression behind a token in it, or behind one with which another
+/// expression begins.
+fn compared_behind(compared: bool, what: &Tok) -> bool
+    ensures { result ≡ spec.compared_behind compared what.now }
+{
+    is_comparison(what) || (!begins_one(what) && compared)
+}
+
+/// Whether a comparison stands in the expression with which tokens end, outside of its parentheses. So many
+/// parentheses are open behind them.
+pub fn compared_after(at_end: usize, tokens: &[Token]) -> bool
+    ensures { result ≡ spec.compared_after at_end 0 false tokens.now }
+{
+    let mut opened = 0;
+    let mut compared = false;
+    let mut rest = tokens;
+    while let [token, more @ ..] = rest {
+        opened = parens_behind(opened, &token.what);
+        if opened == at_end {
+            compared = compared_behind(compared, &token.what);
+        }
+        rest = more;
+    }
+    compared
+}
+
+/// The tokens in front of the last.
+fn but_last(tokens: &[Token]) -> &[Token]
+    ensures { result.now ≡ spec.but_last tokens.now }
+{
+    tokens.split_at(tokens.len().saturating_sub(1)).0
+}
+
+/// Whether the token is there, and closes a block.
+fn closes_at(token: Option<&Token>) -> bool
+    ensures { result ≡ spec.closes_at (option_map (λ token. token.now) token.entry) }
+{
+    match token {
+        Some(token) => closes_block(&token.what),
+        None => false,
+    }
+}
+
+/// Whether the token is `if`.
+fn is_if(what: &Tok) -> bool
+    ensures { result ≡ spec.is_if what.now }
+{
+    matches!(what, Tok::Key(Key::If))
+}
+
+/// Whether the token is there, and is `if`.
+fn is_if_at(token: Option<&Token>) -> bool
+    ensures { result ≡ spec.is_if_at (option_map (λ token. token.now) token.entry) }
+{
+    match token {
+        Some(token) => is_if(&token.what),
+        None => false,
+    }
+}
+
+/// Whether the block that begins there is that of an `if`.
+fn is_of_if(tokens: &[Token], block: Option<Place>) -> bool
+    ensures { result ≡ spec.is_of_if tokens.now block }
+{
+    match block {
+        Some(place) => is_if_at(token_at(part_of(front_of(place, tokens)), 0)),
+        None => false,
+    }
+}
+
+/// Whether the tokens end with the `}` of an `if`.
+pub fn ends_if(alloc: Global, tokens: &[Token]) -> Result<bool, Oom>
+    ensures { IfOk result (λ ends. ends ≡ spec.ends_if tokens.now) }
+{
+    let block = open_block(alloc, but_last(tokens))?;
+    Ok(closes_at(last_of(tokens)) && is_of_if(tokens, block))
 }
