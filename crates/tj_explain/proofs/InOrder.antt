@@ -6,7 +6,6 @@ use Rattle.std.specs.List.Sorted.{IsPermutation}
 use Rattle.std.proofs.lemmas.List.Sorted.{length_permutation}
 use Rattle.tj_base.specs.ForkOrder.{Name}
 use Rattle.tj_base.specs.declared.cause.Cause.{Cause}
-use Rattle.tj_base.specs.declared.cause.Cause.TheVariants as cause
 use Rattle.tj_body.specs.Laws.{AreDistinct}
 use Rattle.tj_body.specs.Points.{IsIn}
 use Rattle.tj_body.specs.declared.point.Point.{Point}
@@ -86,10 +85,11 @@ module _ (fs gs : List Finding) (p : IsPermutation fs gs) where
         let o = h.origins t q origin (in_permuted fs gs p (finding.Echo t q origin) i) in
         (o.0, o.1, begins_there o.0 o.2, o.3);
     failures = λ t c m i. h.failures t c m (in_permuted fs gs p (finding.Failed t c m) i);
+    makers = λ t c m i. h.makers t c m (in_permuted fs gs p (finding.Failed t c m) i);
     histories = λ t i. h.histories t (part_here tasks_in t i);
     tasks = λ t i. h.tasks t (part_here tasks_in t i);
     cells = λ q i. h.cells q (part_here cells_in q i);
-    went = λ t q m i. h.went t q m (in_permuted fs gs p (finding.Failed t (cause.Owner q) m) i);
+    went = λ t i. h.went t (part_here tasks_in t i);
     reasons = λ t c m i. h.reasons t c m (in_permuted fs gs p (finding.Failed t c m) i);
   }
 

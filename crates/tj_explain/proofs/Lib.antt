@@ -9,3 +9,5 @@ pub mod ToldFindings
 pub mod InOrder
 mod ToldOutcomes
 mod Counts
+pub mod FullPlaces
+mod PlacesThere

@@ -60,6 +60,7 @@ use Rattle.tj_explain.proofs.Readings.{one_command}
 use Rattle.tj_forest.proofs.ToldOnce.{tells_each_once}
 use Rattle.tj_forest.proofs.ReasonsTold.{reasons_are_told}
 use Rattle.tj_forest.proofs.WentsRight.{promises_went_there}
+use Rattle.tj_forest.specs.CellsTold.{cells_named}
 use Rattle.tj_forest.specs.Consequences.{ConsequencesFollow}
 use Rattle.tj_forest.specs.Explanations.{OwedIt, StoppedSo, WaitsLeadToToldCycles}
 use Rattle.tj_findings.specs.Findings.{findings_of, maker_named, told_task}
@@ -86,7 +87,7 @@ no_script : (marked : Bool) → Script ≡ status_of marked → ⊥
 no_script true e = cc
 no_script false e = cc
 
-no_full : (marked : Bool) → Full ≡ status_of marked → ⊥
+pub no_full : (marked : Bool) → Full ≡ status_of marked → ⊥
 no_full true e = cc
 no_full false e = cc
 
@@ -116,6 +117,30 @@ no_echo lines cycles t c m (a_failure l j d s none e) q is =
       same d u o e = cc
 no_echo lines cycles t c m (a_debt l j p k e) q is = absurd (cc)
 no_echo lines cycles t c m (an_echo l j p s e) q is = absurd (cc)
+
+-- what is told to have made a cell comes with a cause that names one
+no_maker : (lines : List TraceLine) (cycles : List (List Link)) (t : ToldTask) (c : Cause) (m : Option Maker)
+    → IsOf lines cycles (finding.Failed t c m) → cells_named c m ≡ [] → m ≡ None
+no_maker lines cycles t c m (a_cycle ks j e) is = absurd (cc)
+no_maker lines cycles t c m (a_wait l j p s e) is = absurd (cc)
+no_maker lines cycles t c m (a_failure l j d s none e) is =
+    by c (same_maker d (told_task lines l) (maker_named lines d) e
+    ∙ ap (maker_named lines) (same_cause d (told_task lines l) (maker_named lines d) e)) is where
+      same_cause : (d : Cause) (u : ToldTask) (o : Option Maker) → finding.Failed t c m ≡ finding.Failed u d o → d ≡ c
+      same_cause d u o e = cc
+
+      same_maker : (d : Cause) (u : ToldTask) (o : Option Maker) → finding.Failed t c m ≡ finding.Failed u d o → m ≡ o
+      same_maker d u o e = cc
+
+      by : (c : Cause) → m ≡ maker_named lines c → cells_named c m ≡ [] → m ≡ None
+      by cause.Arith e is = e
+      by cause.Kind e is = e
+      by cause.Steps e is = e
+      by (cause.Owner q) e is = absurd (cc)
+      by (cause.Broken q) e is = absurd (cc)
+      by (cause.Order q) e is = absurd (cc)
+no_maker lines cycles t c m (a_debt l j p k e) is = absurd (cc)
+no_maker lines cycles t c m (an_echo l j p s e) is = absurd (cc)
 
 -- findings as they are told
 all_told : (s : Told) (kind : Telling) (forest : Forest) (fs : List Finding) (n : ℕ) (marked : Bool)
@@ -195,10 +220,11 @@ module _ (strict : Bool) (root : PlacedState) (N : ℕ) (o : Outcome)
     leads = λ w i. absurd i;
     origins = λ t q origin i. absurd i;
     failures = λ t c m i. absurd i;
+    makers = λ t c m i. absurd i;
     histories = λ t i. absurd i;
     tasks = λ t i. absurd i;
     cells = λ q i. absurd i;
-    went = λ t q m i. absurd i;
+    went = λ t i. absurd i;
     reasons = λ t c m i. absurd i;
   }
 
@@ -218,11 +244,13 @@ module _ (leads : (strict : Bool) (root : PlacedState) → WaitsLeadToToldCycles
         leads = λ w i. leads strict root N lines o fresh room traced out w i;
         origins = have_origins strict root N lines o small traced out;
         failures = λ t c m i. no_echo lines o.cycles t c m (is_of lines o.cycles (finding.Failed t c m) i);
+        makers = λ t c m i. no_maker lines o.cycles t c m (is_of lines o.cycles (finding.Failed t c m) i);
         histories = tasks_are_of_histories strict root N lines o traced out;
-        tasks = tasks_are_told_right script steps root main tokens is.notes is.derived strict N lines o.cycles traced;
+        tasks = tasks_are_told_right script steps root main tokens is.notes is.derived strict N lines o traced out;
         cells = cells_are_told_right script steps root main fresh tokens is.notes is.derived strict N lines o room
             traced out;
-        went = promises_went_there script steps root main tokens is.notes is.derived strict N lines o traced out;
+        went = promises_went_there script steps root main fresh tokens is.notes is.derived strict N lines o room traced
+            out;
         reasons = reasons_are_told script steps root main (kinds_of tokens) is strict N lines o.cycles traced;
       }
 
@@ -245,6 +273,7 @@ module _ (leads : (strict : Bool) (root : PlacedState) → WaitsLeadToToldCycles
           is = is;
           root = root;
           main = main;
+          fits = room;
           outcome = o;
           ended = out;
           forest = record { trees = []; strays = [] };
@@ -274,6 +303,7 @@ module _ (leads : (strict : Bool) (root : PlacedState) → WaitsLeadToToldCycles
           is = is;
           root = root;
           main = main;
+          fits = room;
           outcome = o;
           ended = out;
           forest = forest ps;

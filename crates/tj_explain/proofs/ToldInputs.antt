@@ -1,5 +1,5 @@
 -- From what each step gives to what is told of an input.
-use Rattle.std.proofs.Common.{Err, IfOk, List, Ok, Result, Some, [], ap, inl, inr, length, refl, subst, sym, take_all}
+use Rattle.std.proofs.Common.{Err, IfOk, List, Ok, Result, [], ap, inl, inr, length, refl, subst, sym, take_all}
 use Rattle.std.proofs.Common.{false, ℕ, ◌∙◌, ◌≡◌, ◌≤◌, ◌⊎◌, Bool}
 use Rattle.tj_base.specs.declared.memory.Oom.{Oom}
 use Rattle.tj_body.specs.Rounds.{IsFull, meaning}
@@ -13,9 +13,7 @@ use Rattle.tj_syntax.proofs.ScriptTexts.{long_first}
 use Rattle.tj_syntax.specs.ScriptTexts.{IsFirstFault, IsMemory, most_bytes}
 use Rattle.tj_syntax.specs.declared.script_text.NoScript.{NoScript}
 use Rattle.tj_syntax.specs.declared.script_text.NoScript.TheVariants.{Long}
-use Rattle.tj_eval.specs.Bodies.{IsMainBody}
 use Rattle.tj_eval.specs.Stands.{IsPlacedMain, PlacedState}
-use Rattle.tj_eval.specs.Statements.{TaskState, task_of}
 use Rattle.tj_lex.specs.Positions.{position_after}
 use Rattle.tj_lex.specs.Tokens.{AreTokens}
 use Rattle.tj_lex.specs.declared.place.Place.{Place}
@@ -27,6 +25,7 @@ use Rattle.tj_ports.specs.declared.source.ReadEnd.TheVariants as end
 use Rattle.tj_syntax.specs.Faults.{IsScript, kinds_of}
 use Rattle.tj_syntax.specs.PlacesOf.{PlacesOfTask}
 use Rattle.tj_syntax.specs.Trees.{Statement, Task}
+use Rattle.tj_trace.proofs.Seen.{is_full_alike}
 use Rattle.tj_trace.specs.Logs.{logged_program}
 use Rattle.tj_trace.specs.TraceLaws.{script_program}
 use Rattle.tj_trace.specs.Traces.{AreTraced}
@@ -108,14 +107,6 @@ long_told command read bytes text at (Ok output) is same position told = λ all 
       told = told.1 ∙ ap (λ b. tellings.fault_told command.telling b [] (Long at)) (same ∙ long.first);
     })
 
-some_is : (a b : Task) → Some a ≡ Some b → a ≡ b
-some_is a b e = cc
-
--- the task `main` of a script has one body
-pub one_body : (script : List Task) (steps : ℕ) (a b : TaskState) → IsMainBody script steps a
-    → IsMainBody script steps b → a ≡ b
-one_body script steps a b h k = h.2 ∙ ap (λ m. task_of script steps m []) (some_is h.0 k.0 (sym h.1 ∙ k.1)) ∙ sym k.2
-
 module _ (command : WhyCommand) (input : List ℕ) (script : List Task) (tokens : List Token) (root : PlacedState) where
   abbrev cells : ℕ
   cells = command.limits.cells
@@ -144,17 +135,6 @@ module _ (command : WhyCommand) (input : List ℕ) (script : List Task) (tokens 
       (subst (λ z. IsToldRun command input script tokens root (status_of (is_marked outcome)) z) (sym told)
       (ended outcome lines places fits is traced placed))
 
-  -- a run in which nothing went wrong
-  pub fine_told : (outcome : Outcome) (r : Result Output Oom) → ¬ IsFull (script_program strict root) cells
-      → IsOutcome (meaning (script_program strict root) cells) outcome
-      → tells_lines command.telling (is_marked outcome) ≡ false → IfOk r (λ output. output.status ≡ Clean)
-      → IfOk r (λ output. output.text.items ≡ tellings.fine_told command.telling (length outcome.lines))
-      → IfOk r (λ output. IsToldRun command input script tokens root output.status output.text.items)
-  fine_told outcome (Err oom) fits is plain s t = tt
-  fine_told outcome (Ok output) fits is plain s t =
-      subst (λ z. IsToldRun command input script tokens root z output.text.items) (sym s)
-      (subst (λ z. IsToldRun command input script tokens root Clean z) (sym t) (was_fine outcome fits is plain))
-
   -- a run that needs more cells
   pub full_told : (most : Most) (table : List (List Statement)) (source : List (List ℕ)) (places : List PlacesOfTask)
       (status : Status) (text : List ℕ) → IsFull (script_program strict root) cells
@@ -169,3 +149,53 @@ module _ (command : WhyCommand) (input : List ℕ) (script : List Task) (tokens 
       subst (λ z. IsToldRun command input script tokens root z text) (sym s)
       (subst (λ z. IsToldRun command input script tokens root Full z) (sym told)
       (needs_more most places full made placed))
+
+-- the output is what is told of each run with this trace
+abbrev pub IsToldOf : WhyCommand → List ℕ → List Task → List Token → List TraceLine → Output → Type 0
+IsToldOf command input script tokens lines output = (root : PlacedState)
+    → ¬ IsFull (script_program command.limits.strict root) command.limits.cells
+    → AreTraced (logged_program command.limits.strict root) command.limits.cells lines
+    → IsToldRun command input script tokens root output.status output.text.items
+
+-- the outcome is that of each run with this trace
+abbrev pub IsOutcomeFor : List TraceLine → Outcome → Type 0
+IsOutcomeFor lines outcome = (strict : Bool) (root : PlacedState) (N : ℕ)
+    → AreTraced (logged_program strict root) N lines → IsOutcome (meaning (script_program strict root) N) outcome
+
+-- a run in which nothing went wrong
+pub fine_told : (command : WhyCommand) (input : List ℕ) (script : List Task) (tokens : List Token) (outcome : Outcome)
+    (lines : List TraceLine) (r : Result Output Oom) → IsOutcomeFor lines outcome
+    → tells_lines command.telling (is_marked outcome) ≡ false → IfOk r (λ output. output.status ≡ Clean)
+    → IfOk r (λ output. output.text.items ≡ tellings.fine_told command.telling (length outcome.lines))
+    → IfOk r (IsToldOf command input script tokens lines)
+fine_told command input script tokens outcome lines (Err oom) is plain s t = tt
+fine_told command input script tokens outcome lines (Ok output) is plain s t = λ root fits traced.
+    subst (λ z. IsToldRun command input script tokens root z output.text.items) (sym s)
+    (subst (λ z. IsToldRun command input script tokens root Clean z) (sym t)
+    (was_fine outcome fits (is command.limits.strict root command.limits.cells traced) plain))
+
+-- a run whose lines are looked into
+pub lines_told : (command : WhyCommand) (input : List ℕ) (script : List Task) (tokens : List Token) (outcome : Outcome)
+    (lines : List TraceLine) (r : Result Output Oom) → IsOutcomeFor lines outcome
+    → IfOk r (λ output. (root : PlacedState)
+    → ¬ IsFull (script_program command.limits.strict root) command.limits.cells
+    → IsOutcome (meaning (script_program command.limits.strict root) command.limits.cells) outcome
+    → AreTraced (logged_program command.limits.strict root) command.limits.cells lines
+    → IsToldRun command input script tokens root output.status output.text.items)
+    → IfOk r (IsToldOf command input script tokens lines)
+lines_told command input script tokens outcome lines (Err oom) is told = tt
+lines_told command input script tokens outcome lines (Ok output) is told = λ root fits traced.
+    told root fits (is command.limits.strict root command.limits.cells traced) traced
+
+-- the run with the root of the script
+pub root_told : (command : WhyCommand) (input : List ℕ) (script : List Task) (tokens : List Token) (root : PlacedState)
+    (lines : List TraceLine) (r : Result Output Oom) → IsPlacedMain script command.limits.steps root
+    → ¬ IsFull (logged_program command.limits.strict root) command.limits.cells
+    → AreTraced (logged_program command.limits.strict root) command.limits.cells lines
+    → IfOk r (IsToldOf command input script tokens lines)
+    → IfOk r (λ output. (root : PlacedState) × IsPlacedMain script command.limits.steps root
+    × IsToldRun command input script tokens root output.status output.text.items)
+root_told command input script tokens root lines (Err oom) main fits traced told = tt
+root_told command input script tokens root lines (Ok output) main fits traced told =
+    let alike = is_full_alike command.limits.strict root command.limits.cells in
+    (root, main, told root (λ full. fits (alike.1 full)) traced)

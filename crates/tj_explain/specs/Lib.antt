@@ -5,3 +5,5 @@ pub mod WhyAnswers
 pub mod Inner
 pub mod ToldFindings
 pub mod FullTexts
+pub mod FullPlaces
+pub mod PlaceLaws

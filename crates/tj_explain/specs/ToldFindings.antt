@@ -1,5 +1,5 @@
 -- The law of texts: what is told of a run, in words or objects, is a forest of findings, and these explain the run.
-use Rattle.std.specs.Prelude.{◌≡◌, ◌↔◌, ℕ, suc, Bool, true, false, List, [], ◌∷◌, String, length, Option, Some}
+use Rattle.std.specs.Prelude.{◌≡◌, ◌↔◌, ℕ, suc, Bool, true, false, List, [], ◌∷◌, String, length, Option, Some, None}
 use Rattle.std.specs.List.{flat_map}
 use Rattle.std.specs.declared.alloc.Global.{Global}
 use Rattle.tj_base.specs.Cycles.{Reaches}
@@ -7,7 +7,7 @@ use Rattle.tj_base.specs.ForkOrder.{Name}
 use Rattle.tj_base.specs.declared.cause.Cause.{Cause}
 use Rattle.tj_base.specs.declared.cause.Cause.TheVariants as cause
 use Rattle.tj_body.specs.Points.{IsIn}
-use Rattle.tj_body.specs.Rounds.{meaning}
+use Rattle.tj_body.specs.Rounds.{IsFull, meaning}
 use Rattle.tj_body.specs.WaitGraph.{WaitsFor}
 use Rattle.tj_command.specs.Statuses.{status_of}
 use Rattle.tj_command.specs.declared.status.Status.{Status}
@@ -21,7 +21,7 @@ use Rattle.tj_syntax.specs.Trees.{Task}
 use Rattle.tj_trace.specs.MadeAt.{placed_program}
 use Rattle.tj_trace.specs.TraceLaws.{script_program}
 use Rattle.tj_trace.specs.declared.line.Maker.{Maker}
-use Rattle.tj_forest.specs.CellsTold.{IsCellToldRight, cells_in}
+use Rattle.tj_forest.specs.CellsTold.{IsCellToldRight, cells_in, cells_named}
 use Rattle.tj_forest.specs.Consequences.{IsInOrder}
 use Rattle.tj_forest.specs.Explanations.{IsToldCycle, LeadsToToldCycle, TellsEachOnce, cycles_in, told_waits_in}
 use Rattle.tj_findings.specs.Forests.{Forest, findings_in}
@@ -34,7 +34,7 @@ use Rattle.tj_explain.specs.WhyLine.{IsCommand}
 use Rattle.tj_explain.specs.WhyOutput.{IsOutput, scene_of}
 use Rattle.tj_json.specs.JsonTexts.{forest_json}
 use Rattle.tj_explain.specs.Tellings.{fine_told}
-use Rattle.tj_forest.specs.WentLaws.{WentThere}
+use Rattle.tj_forest.specs.WentLaws.{IsToldWent}
 use Rattle.tj_texts.specs.WhyTexts.{forest_text}
 use Rattle.tj_findings.specs.declared.finding.Finding.{Finding}
 use Rattle.tj_findings.specs.declared.finding.Finding.TheVariants as finding
@@ -63,16 +63,19 @@ pub record Explains (script : List Task) (places : List PlacesOfTask) (strict : 
   -- a failure that isn't told as an echo is for no broken cell
   pub failures : (t : ToldTask) (c : Cause) (m : Option Maker) → IsIn (finding.Failed t c m) fs
       → (q : Name) → c ≡ cause.Broken q → ⊥
+  -- what made a cell is told with a failure only if its cause names one
+  pub makers : (t : ToldTask) (c : Cause) (m : Option Maker) → IsIn (finding.Failed t c m) fs
+      → cells_named c m ≡ [] → m ≡ None
   -- each task is told to have stopped as it did, where it stood then
   pub histories : (t : ToldTask) → IsIn t (flat_map tasks_in fs) → IsOfHistory strict root N t
   -- each task has its declaration, and positions of the statements at which it stopped and was forked
-  pub tasks : (t : ToldTask) → IsIn t (flat_map tasks_in fs) → IsToldRight script places t
+  pub tasks : (t : ToldTask) → IsIn t (flat_map tasks_in fs)
+      → IsToldRight (meaning (script_program strict root) N) script places t
   -- each cell but the root's result has the statement that made it, with a position
   pub cells : (q : ToldCell) → IsIn q (flat_map cells_in fs)
       → IsCellToldRight script places (placed_program strict root) N q
-  -- where a promise went is told as the histories did it, and the statements that are told have positions
-  pub went : (t : ToldTask) (q : Name) (m : Option Maker) → IsIn (finding.Failed t (cause.Owner q) m) fs
-      → WentThere strict root N places t q t.went
+  -- where a promise went is told as the histories did it, with positions, of a task without a right to it alone
+  pub went : (t : ToldTask) → IsIn t (flat_map tasks_in fs) → IsToldWent strict root N places t
   -- each failure by `arith` or `kind` has a reason that is told
   pub reasons : (t : ToldTask) (c : Cause) (m : Option Maker) → IsIn (finding.Failed t c m) fs
       → IsToldWhy script t c
@@ -106,6 +109,7 @@ pub record IsExplained (command : WhyCommand) (input : List ℕ) (marked : Bool)
   pub is : IsScriptOf input script
   pub root : PlacedState
   pub main : IsPlacedMain script command.limits.steps root
+  pub fits : ¬ IsFull (script_program command.limits.strict root) command.limits.cells
   pub outcome : Outcome
   pub ended : IsOutcome (meaning (script_program command.limits.strict root) command.limits.cells) outcome
   -- the findings of the forest explain the run

@@ -2,9 +2,11 @@
 ghost use Rattle.std.specs.Prelude.{ℕ, ◌≡◌, List, String};
 ghost use Rattle.std.specs.declared.alloc.Global.{Global};
 ghost use Rattle.tj_command.specs.declared.status.Status.{Status};
+ghost use Rattle.tj_explain.specs.FullPlaces.{TextsTellFull};
 ghost use Rattle.tj_explain.specs.ToldFindings.{TextsTellFindings};
 ghost use Rattle.tj_explain.specs.WhyOutput.{IsOutput};
 
+use crate::place_laws::places_are_of_tokens;
 use tj_command::one_script_or_fault;
 use tj_forest::{consequences_follow, waits_lead_to_told_cycles};
 
@@ -23,11 +25,23 @@ pub fn texts_tell_findings()
     // It tells a forest of findings: objects each by itself, and words by groups of those that are
     // alike, or with `--all` each by itself; where there are none, that nothing went wrong. Of a finding
     // words leave out members of a long cycle and the end of long arguments, and of a group the names
-    // behind its second and what differs in it. Objects leave nothing out.
-    // There are no findings exactly where the status says so. What tj_forest's laws say of lists of
-    // findings holds of those of the forest, and each consequence stands below its cause.
+    // behind its second and what differs in it. Of what variables held as a task failed both tell the
+    // reason; else objects leave nothing out. There are no findings exactly where the status says so.
+    // What tj_forest's laws say of lists of findings holds of those of the forest, and each consequence
+    // stands below its cause. What made a cell is told with a failure only if its cause names one.
     ensures { TextsTellFindings }
 {
     waits_lead_to_told_cycles();
     consequences_follow();
+}
+
+/// The statement that is told to have made most of the first cells stands at a token of the input.
+pub fn texts_tell_full()
+    // Law: an output whose status is that of a run which needs more cells than the limit is of a script
+    // that does. The statement which it tells below `full`, or in the object, made most of the first
+    // cells, one more than the limit, of the first round that has more. The position that is told of it is
+    // that of a token of the input: of its ask, or of the closing brace.
+    ensures { TextsTellFull }
+{
+    places_are_of_tokens();
 }

@@ -11,7 +11,10 @@ ghost use Rattle.tj_mean.specs.Outcomes.{IsOutcome};
 ghost use Rattle.tj_ports.specs.Reading.{IsWithin};
 ghost use Rattle.tj_syntax.specs.Faults.{IsScript, kinds_of};
 ghost use Rattle.tj_syntax.specs.View as view;
+ghost use Rattle.tj_trace.specs.Ended.{IsTrace};
+ghost use Rattle.tj_trace.specs.Logs.{logged_program};
 ghost use Rattle.tj_trace.specs.TraceLaws.{script_program};
+ghost use Rattle.tj_trace.specs.Traces.{AreTraced};
 ghost use Rattle.tj_explain.specs.Tellings as tellings;
 ghost use Rattle.tj_explain.specs.WhyOutput as outputs;
 ghost use Rattle.tj_explain.specs.WhyOutput.{IsCommandOutput, IsToldRun};
@@ -24,14 +27,14 @@ use crate::why::why_text;
 use std::alloc::Global;
 use tj_base::Oom;
 use tj_command::{Limits, Output, Status, status_of};
-use tj_eval::{PlacedBody, Sizes, main_body, placed_main};
+use tj_eval::{PlacedBody, Sizes, placed_main};
 use tj_faults::lines_of;
 use tj_findings::{Scene, statements_of};
 use tj_lex::{Token, tokens};
-use tj_mean::{Outcome, PlanFault, marked, plan};
+use tj_mean::{Outcome, PlanFault, marked};
 use tj_ports::ReadEnd;
 use tj_syntax::{NoScript, Script, places, position_behind};
-use tj_trace::{most_made, trace};
+use tj_trace::{TraceLine, most_made, outcome_of_lines, trace};
 
 /// What is told of an input, where this was read of it.
 pub fn told_of(alloc: Global, command: WhyCommand, input: &ReadEnd) -> Result<Output, Oom>
@@ -124,8 +127,8 @@ fn told_script(
     } = command.limits;
     let sizes = Sizes::of(alloc, script)?;
     let root = placed_main(alloc, script, &sizes, steps)?;
-    match plan(alloc, &main_body(alloc, script, steps)?, cells, strict) {
-        Ok(outcome) => told_outcome(alloc, command, text, tokens, script, &root, &outcome),
+    match trace(alloc, &root, cells, strict) {
+        Ok(lines) => told_lines(alloc, command, text, tokens, script, lines.items()),
         Err(PlanFault::Full) => told_full(alloc, command, text, tokens, script, &root),
         Err(PlanFault::Oom) => Err(Oom),
     }
@@ -147,7 +150,7 @@ fn told_full(
         root.now output.status output.text.items) }
 {
     let Limits { cells, strict, .. } = command.limits;
-    // The run with stands is full where the one without them was.
+    // There is a first round with more cells.
     let found = most_made(alloc, root, cells, strict)?;
     let Some(most) = found else {
         return Err(Oom);
@@ -169,30 +172,28 @@ fn told_full(
     })
 }
 
-// What is told of an outcome of the run with this root. One that isn't marked has a trace for a
+// What is told of a run with this trace. Where nothing went wrong the lines are looked into for a
 // picture alone.
-fn told_outcome(
+fn told_lines(
     alloc: Global,
     command: WhyCommand,
     text: &[u8],
     tokens: &[Token],
     script: &Script,
-    root: &PlacedBody,
-    outcome: &Outcome,
+    lines: &[TraceLine],
 ) -> Result<Output, Oom>
-    requires limits { AreLimits command.limits }
-    requires root { IsFresh placed_places placed_awaits placed_left 1 root.now }
-    requires fits { ¬ IsFull (script_program command.limits.strict root.now)
-        command.limits.cells }
-    requires outcome { IsOutcome (meaning (script_program command.limits.strict root.now)
-        command.limits.cells) outcome.now }
-    ensures { IfOk result (λ output. IsToldRun command text.now (view.script script.now) tokens.now
-        root.now output.status output.text.items) }
+    requires { IsTrace lines.now }
+    ensures { IfOk result (λ output. (root : PlacedState)
+        → ¬ IsFull (script_program command.limits.strict root) command.limits.cells
+        → AreTraced (logged_program command.limits.strict root) command.limits.cells lines.now
+        → IsToldRun command text.now (view.script script.now) tokens.now root output.status
+        output.text.items) }
 {
-    if tells_lines(command.telling, marked(outcome)) {
-        told_traced(alloc, command, text, tokens, script, root, outcome)
+    let outcome = outcome_of_lines(alloc, lines)?;
+    if tells_lines(command.telling, marked(&outcome)) {
+        told_traced(alloc, command, text, tokens, script, lines, &outcome)
     } else {
-        told_fine(alloc, command.telling, outcome)
+        told_fine(alloc, command.telling, &outcome)
     }
 }
 
@@ -225,23 +226,18 @@ fn told_traced(
     text: &[u8],
     tokens: &[Token],
     script: &Script,
-    root: &PlacedBody,
+    lines: &[TraceLine],
     outcome: &Outcome,
 ) -> Result<Output, Oom>
-    requires limits { AreLimits command.limits }
-    requires root { IsFresh placed_places placed_awaits placed_left 1 root.now }
-    requires fits { ¬ IsFull (script_program command.limits.strict root.now)
-        command.limits.cells }
-    requires outcome { IsOutcome (meaning (script_program command.limits.strict root.now)
-        command.limits.cells) outcome.now }
-    ensures { IfOk result (λ output. IsToldRun command text.now (view.script script.now) tokens.now
-        root.now output.status output.text.items) }
+    requires { IsTrace lines.now }
+    ensures { IfOk result (λ output. (root : PlacedState)
+        → ¬ IsFull (script_program command.limits.strict root) command.limits.cells
+        → IsOutcome (meaning (script_program command.limits.strict root) command.limits.cells)
+        outcome.now
+        → AreTraced (logged_program command.limits.strict root) command.limits.cells lines.now
+        → IsToldRun command text.now (view.script script.now) tokens.now root output.status
+        output.text.items) }
 {
-    let Limits { cells, strict, .. } = command.limits;
-    // The run with stands isn't full where the one without them wasn't.
-    let Ok(lines) = trace(alloc, root, cells, strict) else {
-        return Err(Oom);
-    };
     let places = places(alloc, tokens)?;
     let statements = statements_of(alloc, script)?;
     let source = lines_of(alloc, text)?;
@@ -255,6 +251,6 @@ fn told_traced(
     };
     Ok(Output {
         status: status_of(marked(outcome)),
-        text: why_text(&scene, lines.items(), outcome, command.telling)?,
+        text: why_text(&scene, lines, outcome, command.telling)?,
     })
 }

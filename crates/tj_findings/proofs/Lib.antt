@@ -2,3 +2,5 @@ pub mod Steps
 pub mod PutBelow
 mod TableRows
 mod ChildNames
+pub mod PlainTexts
+pub mod PlainParts

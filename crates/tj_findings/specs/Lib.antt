@@ -10,3 +10,4 @@ pub mod Groups
 pub mod LetNames
 pub mod ReasonTexts
 pub mod PartTexts
+pub mod LinesTold

@@ -162,7 +162,8 @@ module _ (strict : Bool) (root : PlacedState) (fresh : IsFresh script_places scr
       (2 * suc (logged_left t.0.body))) in
       at_last q (in_rounds named.0 q named.1)
 
-  of_failure : (l : TraceLine) → IsIn l lines → (c : Cause) → l.line.ending ≡ ending.Failed c
+  -- what a failure names
+  pub of_failure : (l : TraceLine) → IsIn l lines → (c : Cause) → l.line.ending ≡ ending.Failed c
       → CauseNamed (IsNamed program) c
   of_failure l i c is =
       let t = of_line strict root N lines traced l i in
@@ -323,7 +324,7 @@ cells_are_told_right script steps root main fresh tokens notes derived strict N 
         let h = of_failure strict root fresh N room lines traced l there (cause.Owner x) is in (
           x,
           at_last strict root fresh N room lines traced x
-              (in_rounds strict root fresh N room lines traced h.0 x h.1),
+              (in_rounds strict root fresh N room lines traced sort.Promise x h),
           e,
         )
     of_cause l there (cause.Broken x) is (inl e) =

@@ -37,3 +37,5 @@ mod NotedThings
 mod PlacedTasks
 mod HandedTwice
 mod OwnersKept
+pub mod LetsTold
+mod PromisesKept

@@ -37,7 +37,7 @@ module _ (Named : Sort → Name → Type 0) where
   CauseNamed cause.Arith = Unit {0}
   CauseNamed cause.Kind = Unit {0}
   CauseNamed cause.Steps = Unit {0}
-  CauseNamed (cause.Owner q) = (s : Sort) × Named s q
+  CauseNamed (cause.Owner q) = Named sort.Promise q
   CauseNamed (cause.Broken q) = Unit {0}
   CauseNamed (cause.Order q) = (s : Sort) × Named s q
 
@@ -61,7 +61,7 @@ module _ (Named : Sort → Name → Type 0) where
           same a c e = cc
         by sort.Promise true rest named on e = on e
         by sort.Promise false rest named on e =
-            subst CauseNamed (same (cause.Owner r.name) c e) (sort.Promise, named) where
+            subst CauseNamed (same (cause.Owner r.name) c e) named where
               same : (a c : Cause) → ◌≡◌ {A = Result (List Name) Cause} (Err a) (Err c) → a ≡ c
               same a c e = cc
 
@@ -89,7 +89,7 @@ module _ (Named : Sort → Name → Type 0) where
     of_set sort.Promise x v p named = by (has x p.holds) where
       by : (b : Bool) → FailsNamed (cond b (after_write x v p) (after_failure (cause.Owner x) p)).stage
       by true = tt
-      by false = (sort.Promise, named)
+      by false = named
 
     of_get : (spare : Bool) (s : Sort) (x : Name) (p : Point B) → FailsNamed (after_get spare s x p).stage
     of_get spare sort.Task x p = tt

@@ -48,6 +48,12 @@ module _ (strict : Bool) (root : PlacedState) (N : ℕ) (lines : List TraceLine)
   same_meaning = meaning_seen erased (logged_program strict root) (script_program strict root)
       (record { rules = are_seen strict; root = refl }) N
 
+  -- a history with notes is one of the script's, without them
+  pub without_notes : (p : Point Logged) → IsIn p logged_meaning
+      → IsIn (point_as erased p) (meaning (script_program strict root) N)
+  without_notes p i =
+      subst (IsIn (point_as erased p)) (sym same_meaning) (to_map (point_as erased) p logged_meaning i)
+
   -- the task of a line owned what the line tells
   pub line_keeps : (l : TraceLine) → IsIn l lines → (q : Name) → IsIn q (kept_by l)
       → OwnedAtEnd strict root N l.line.name q
@@ -56,8 +62,7 @@ module _ (strict : Bool) (root : PlacedState) (N : ℕ) (lines : List TraceLine)
       let p = history_of t.0 in
       let k = line_is p l t.1.is in (
         point_as erased p,
-        subst (IsIn (point_as erased p)) (sym same_meaning)
-            (to_map (point_as erased) p logged_meaning (to_map history_of t.0 _ t.1.there)),
+        without_notes p (to_map history_of t.0 _ t.1.there),
         ap (λ (z : TraceLine). z.line.name) k.2,
         subst (IsIn q) (ap kept_by (sym k.2) ∙ kept_of p k.0 p.stage k.1) j,
       )

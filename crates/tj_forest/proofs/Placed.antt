@@ -9,6 +9,8 @@ use Rattle.std.proofs.lemmas.List.{take_more}
 use Rattle.tj_base.specs.ForkOrder.{Name, child}
 use Rattle.tj_body.specs.Points.{IsIn}
 use Rattle.tj_body.specs.Names.{same}
+use Rattle.tj_body.specs.Rounds.{meaning}
+use Rattle.tj_body.specs.declared.point.Point.{Point}
 use Rattle.tj_body.proofs.Lists.{from_flat_map, in_map}
 use Rattle.tj_eval.specs.Stands.{AreNamed, IsPlacedMain, PlacedState, StandsRight, all_ahead, within}
 use Rattle.tj_eval.specs.Statements.{listed}
@@ -25,6 +27,7 @@ use Rattle.tj_syntax.specs.Trees.{Task}
 use Rattle.tj_trace.specs.Logs.{logged_program}
 use Rattle.tj_trace.specs.Lookups.{made_by}
 use Rattle.tj_trace.specs.RightLines.{IsForkOf, StandsWhere}
+use Rattle.tj_trace.specs.TraceLaws.{script_program}
 use Rattle.tj_trace.specs.Traces.{AreTraced}
 use Rattle.tj_trace.specs.declared.line.Maker.{Maker}
 use Rattle.tj_trace.specs.declared.line.TraceLine.{TraceLine}
@@ -32,6 +35,8 @@ use Rattle.tj_trace.proofs.LinesPlaced.{lines_have_places}
 use Rattle.tj_trace.proofs.LinesRight.{lines_are_forked, lines_are_right}
 use Rattle.tj_mean.proofs.Lists.Elements.{in_get, some_is}
 use Rattle.tj_forest.proofs.Found.{IsOf, a_cycle, a_debt, a_failure, a_wait, an_echo, is_of}
+use Rattle.tj_forest.proofs.ToldOnce.{to_point}
+use Rattle.tj_forest.specs.Explanations.{StoppedSo}
 use Rattle.tj_findings.specs.Echoes.{back, back_by, breaker, echoed_by, most_doublings, origin}
 use Rattle.tj_findings.specs.Findings.{findings_of}
 use Rattle.tj_findings.specs.Findings.{link_wait, owed, told_task, wait_by}
@@ -183,13 +188,14 @@ module _ (root : PlacedState) (right : StandsRight root) (tokens : List Token) (
       (e ∙ split_name (x ∷ xs) (omega arith))
 
   -- the task of a line is told right
-  line_right : (l : TraceLine) → IsIn l lines → IsToldRight root.task.script own_places (told_task lines l)
-  line_right l i =
+  line_right : {B : Type 0} (ps : List (Point B)) (l : TraceLine) → IsIn l lines
+      → StoppedSo ps l.line.name l.line.ending → IsToldRight ps root.task.script own_places (told_task lines l)
+  line_right ps l i so =
       let is = lines_are_right strict root N lines right traced l i in
       let there = lines_have_places strict root N lines right traced tokens notes derived in
       record {
         declared = declared_where root.task.script l.decl l.at l.line.ending is.stands;
-        stopped = (l.line.ending, refl, is.stands);
+        stopped = (l.line.ending, so, refl, is.stands);
         stands = (there l i).0;
         forked = forked_by l i l.line.name refl;
         fork_stands = λ m e. let k = maker_in lines l.line.name m e in (there k.0 k.1).1 m k.2;
@@ -197,11 +203,13 @@ module _ (root : PlacedState) (right : StandsRight root) (tokens : List Token) (
 
 -- the law
 pub tasks_are_told_right : TasksAreToldRight
-tasks_are_told_right script steps root main tokens notes derived strict N lines cycles traced t i =
+tasks_are_told_right script steps root main tokens notes derived strict N lines o traced out t i =
     let facts = main_right script steps root main in
-    let l = of_lines lines cycles t i in
+    let l = of_lines lines o.cycles t i in
+    let ps = meaning (script_program strict root) N in
+    let p = to_point strict root N lines o traced out l.0 l.1 in
     let told : (d : IsProgram notes root.task.script)
-    → IsToldRight root.task.script (places_of tokens (in_tasks d 0)) t =
-    λ d. subst (IsToldRight root.task.script (places_of tokens (in_tasks d 0))) (sym l.2)
-    (line_right root facts.0 tokens notes d strict N lines traced l.0 l.1) in
-    subst (λ s. (d : IsProgram notes s) → IsToldRight s (places_of tokens (in_tasks d 0)) t) facts.1 told derived
+    → IsToldRight ps root.task.script (places_of tokens (in_tasks d 0)) t =
+    λ d. subst (IsToldRight ps root.task.script (places_of tokens (in_tasks d 0))) (sym l.2)
+    (line_right root facts.0 tokens notes d strict N lines traced ps l.0 l.1 (p.0, p.1, p.2.name, p.2.stopped)) in
+    subst (λ s. (d : IsProgram notes s) → IsToldRight ps s (places_of tokens (in_tasks d 0)) t) facts.1 told derived

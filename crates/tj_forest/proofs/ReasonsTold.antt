@@ -1,6 +1,6 @@
 -- The reason that is told of a failure is that of the statement at which the history stands.
 use Rattle.std.proofs.Common.{◌≡◌, ℕ, Bool, List, refl, ap, sym, ◌∙◌, subst}
-use Rattle.std.specs.Prelude.{Option, Some, slice_get, option_map}
+use Rattle.std.specs.Prelude.{Option, Some, None, slice_get, option_map}
 use Rattle.std.proofs.lemmas.Option.{slice_get-map}
 use Rattle.tj_base.specs.declared.cause.Cause.{Cause}
 use Rattle.tj_base.specs.declared.cause.Cause.TheVariants as cause
@@ -21,7 +21,9 @@ use Rattle.tj_eval.specs.Stands.{PlacedState, StandsRight}
 use Rattle.tj_mean.specs.Outcomes.{ending_of}
 use Rattle.tj_mean.specs.declared.outcome.Ending.TheVariants as ending
 use Rattle.tj_mean.specs.declared.outcome.Link.{Link}
+use Rattle.tj_mean.proofs.Lists.Elements.{some_is}
 use Rattle.tj_syntax.specs.Trees as trees
+use Rattle.tj_syntax.specs.Trees.{Statement}
 use Rattle.tj_syntax.specs.Within.{within}
 use Rattle.tj_trace.specs.Logs.{Logged, logged_program}
 use Rattle.tj_trace.specs.MadeAt.{placed_program}
@@ -38,16 +40,30 @@ use Rattle.tj_reasons.specs.ReasonLaws.{TellsOf}
 use Rattle.tj_reasons.specs.Reasons.{failed_at}
 use Rattle.tj_reasons.proofs.FailuresTold.{failures_have_reasons}
 use Rattle.tj_reasons.proofs.ForksDeclared.{forks_declared}
+use Rattle.tj_reasons.proofs.StatementsFirst.{statement_first}
+use Rattle.tj_reasons.specs.declared.reason.Reason.{Reason}
 use Rattle.tj_forest.proofs.Found.{IsOf, a_cycle, a_debt, a_failure, a_wait, an_echo, is_of}
 use Rattle.tj_forest.proofs.Placed.{main_right}
 use Rattle.tj_forest.proofs.PlacedTasks.{placed_seen}
-use Rattle.tj_forest.proofs.WentsRight.{failed_so, pair_is}
 use Rattle.tj_findings.specs.Findings.{told_task}
 use Rattle.tj_findings.specs.ReasonTexts.{reason_in}
-use Rattle.tj_forest.specs.ReasonsTold.{IsToldWhy, ReasonsAreTold}
+use Rattle.tj_forest.specs.ReasonsTold.{FailsFirst, IsToldWhy, ReasonsAreTold}
 use Rattle.tj_findings.specs.Scenes.{Told, statement_at, statement_in, statements_of}
+use Rattle.tj_findings.specs.declared.finding.Finding.{Finding}
 use Rattle.tj_findings.specs.declared.finding.Finding.TheVariants as finding
 use Rattle.tj_findings.specs.declared.finding.ToldTask.{ToldTask}
+
+-- the task that failed, and its cause
+abbrev failed_so : Finding → Option (ToldTask × Cause)
+failed_so (finding.Failed t c m) = Some (t, c)
+failed_so f = None
+
+pair_is : (t u : ToldTask) (c d : Cause) → ◌≡◌ {A = Option (ToldTask × Cause)} (Some (t, c)) (Some (u, d))
+    → (t ≡ u) × (c ≡ d)
+pair_is t u c d e = (
+  ap (λ (p : ToldTask × Cause). p.0) (some_is (t, c) (u, d) e),
+  ap (λ (p : ToldTask × Cause). p.1) (some_is (t, c) (u, d) e),
+)
 
 -- a history that has ended so has failed
 failed_stage : (st : PointStage) (c : Cause) → ending_of st ≡ Some (ending.Failed c)
@@ -98,9 +114,23 @@ module _ (script : List trees.Task) (strict : Bool) (root : PlacedState) (right 
 
     -- the statement that is looked up is the one at which the history stands
     module _ (s : Told) (table : s.statements ≡ statements_of script) where
+      fails_first : (q : Statement) → statement_at s l.decl l.at ≡ Some q → l.held ≡ held_of (point u)
+          → (r : Reason) → reason_in l.held (statement_at s l.decl l.at) ≡ Some r → FailsFirst s (told_task lines l) r
+      fails_first q row held r e = let p = point u in (
+        q,
+        p.name,
+        p.references,
+        p.body.task.vars,
+        row,
+        held,
+        statement_first p.name p.references p.body.task.vars q r
+            (sym (ap (λ v. failed_at v q) held) ∙ (sym (ap (reason_in l.held) row) ∙ e)),
+      )
+
       told_reason : (fault : Trouble) → HasReason root.task.script (point u).body (held_of (point u)) fault
           → held_at (ending.Failed c) (held_of (point u)) ≡ held_of (point u)
           → TellsOf fault (reason_in l.held (statement_at s l.decl l.at))
+          × ((r : Reason) → reason_in l.held (statement_at s l.decl l.at) ≡ Some r → FailsFirst s (told_task lines l) r)
       told_reason fault h same =
           let line = lines_are_of_stands strict root N lines traced l there u u_there
           (line_name strict root N k.0 l k.1) in
@@ -113,9 +143,11 @@ module _ (script : List trees.Task) (strict : Bool) (root : PlacedState) (right 
           ∙ ap (slice_get (within h.1.task.body)) line.at
           ∙ is_numbered (within h.1.task.body) (point u).body.stand.at h.0 h.1.is_at in
           let held : l.held ≡ held_of (point u) = line.held
-          ∙ ap (λ e. held_at e (held_of (point u))) ends ∙ same in
-          subst (λ o. TellsOf fault (reason_in l.held o)) (sym row)
-          (subst (λ v. TellsOf fault (failed_at v h.0)) (sym held) h.2)
+          ∙ ap (λ e. held_at e (held_of (point u))) ends ∙ same in (
+            subst (λ o. TellsOf fault (reason_in l.held o)) (sym row)
+                (subst (λ v. TellsOf fault (failed_at v h.0)) (sym held) h.2),
+            λ r e. fails_first h.0 row held r e,
+          )
 
     told_for : (d : Cause) → c ≡ d → IsToldWhy script (told_task lines l) d
     told_for cause.Arith e = λ s table. told_reason s table trouble.Arith
@@ -124,10 +156,10 @@ module _ (script : List trees.Task) (strict : Bool) (root : PlacedState) (right 
     told_for cause.Kind e = λ s table. told_reason s table trouble.Kind
         (subst (HasReasonFor root.task.script (point u).body (held_of (point u))) e has_reason)
         (ap (λ x. held_at (ending.Failed x) (held_of (point u))) e)
-    told_for cause.Steps e = λ s table. tt
-    told_for (cause.Owner q) e = λ s table. tt
-    told_for (cause.Broken q) e = λ s table. tt
-    told_for (cause.Order q) e = λ s table. tt
+    told_for cause.Steps e = λ s table. (tt, λ r none. absurd (cc))
+    told_for (cause.Owner q) e = λ s table. (tt, λ r none. absurd (cc))
+    told_for (cause.Broken q) e = λ s table. (tt, λ r none. absurd (cc))
+    told_for (cause.Order q) e = λ s table. (tt, λ r none. absurd (cc))
 
   of_failure : (cycles : List (List Link)) (t : ToldTask) (c : Cause) (m : Option Maker)
       → IsOf lines cycles (finding.Failed t c m) → IsToldWhy script t c

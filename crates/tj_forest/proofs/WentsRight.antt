@@ -1,24 +1,28 @@
 -- Where a promise went is told as the lines of the trace tell it, and so as the histories did it.
 use Rattle.std.proofs.Common.{◌≡◌, ℕ, suc, Bool, true, false, cond, List, [], ◌∷◌, refl, ap, sym, ◌∙◌}
-use Rattle.std.proofs.Common.{find, subst, inl, inr, ◌⊎◌}
+use Rattle.std.proofs.Common.{◌++◌, find, map, subst, inl, inr, ◌⊎◌}
 use Rattle.std.specs.Prelude.{Option, Some, None, slice_get, option_map}
 use Rattle.tj_base.specs.ForkOrder.{Name, child}
-use Rattle.tj_base.specs.declared.cause.Cause.{Cause}
 use Rattle.tj_base.specs.declared.cause.Cause.TheVariants as cause
 use Rattle.tj_base.specs.declared.cell.Sort.TheVariants as sort
+use Rattle.tj_body.specs.Asks.{IsFresh}
 use Rattle.tj_body.specs.History.{Assignment, history}
 use Rattle.tj_body.specs.Names.{has, same}
 use Rattle.tj_body.specs.Points.{IsIn}
 use Rattle.tj_body.specs.Rounds.{meaning}
+use Rattle.tj_body.specs.SeenAs.{point_as, task_as}
 use Rattle.tj_body.specs.declared.point.Point.{Point}
 use Rattle.tj_body.specs.declared.point.Task.{Task}
-use Rattle.tj_body.specs.Rounds.{given, last_round}
+use Rattle.tj_body.specs.Rounds.{IsFull, given, last_round}
 use Rattle.tj_body.proofs.Counts.{has_of_times, same_is, same_self, times_of_in}
 use Rattle.tj_body.proofs.Lists.{from_flat_map, in_map, to_map}
 use Rattle.tj_body.proofs.Rounds.Families.{same_name}
+use Rattle.tj_eval.specs.Bodies.{script_awaits, script_left, script_places}
 use Rattle.tj_eval.specs.Stands.{PlacedState, StandsRight}
+use Rattle.tj_eval.specs.Statements.{TaskState}
 use Rattle.tj_lex.specs.declared.token.Token.{Token}
-use Rattle.tj_mean.specs.Outcomes.{IsOutcome}
+use Rattle.tj_mean.specs.Outcomes.{IsOutcome, ending_of}
+use Rattle.tj_mean.specs.declared.outcome.Ending.{Ending}
 use Rattle.tj_mean.specs.declared.outcome.Ending.TheVariants as ending
 use Rattle.tj_mean.specs.declared.outcome.Outcome.{Outcome}
 use Rattle.tj_mean.proofs.Lists.Elements.{get_in, in_get, in_of_has, some_is}
@@ -28,7 +32,7 @@ use Rattle.tj_syntax.specs.PlacesOf.{PlacesOfTask, places_of}
 use Rattle.tj_syntax.specs.Starts.{in_tasks}
 use Rattle.std.specs.List.{flat_map}
 use Rattle.tj_trace.specs.HandLaws.{handed_to}
-use Rattle.tj_trace.specs.Logs.{Logged, logged_program}
+use Rattle.tj_trace.specs.Logs.{Logged, erased, logged_program}
 use Rattle.tj_trace.specs.Lookups.{kept_by, maker_at}
 use Rattle.tj_trace.specs.SpotLaws.{HasPlace}
 use Rattle.tj_trace.specs.TraceLaws.{script_program}
@@ -43,23 +47,22 @@ use Rattle.tj_trace.proofs.LinesPlaced.{lines_have_places}
 use Rattle.tj_trace.proofs.LinesRight.{lines_are_right}
 use Rattle.tj_trace.proofs.MadeThere.{lines_are_of_stands}
 use Rattle.tj_trace.proofs.Noted.{notes_are_whole}
-use Rattle.tj_forest.proofs.Found.{IsOf, a_cycle, a_debt, a_failure, a_wait, an_echo, is_of}
+use Rattle.tj_forest.proofs.CellsTold.{of_failure}
 use Rattle.tj_forest.proofs.HandedTwice.{twice_there}
 use Rattle.tj_forest.proofs.LineNumbers.{found_there}
 use Rattle.tj_forest.proofs.NotedThings.{same_number, thing_at}
-use Rattle.tj_forest.proofs.OwnersKept.{keeps_line, line_keeps}
-use Rattle.tj_forest.proofs.Placed.{main_right}
+use Rattle.tj_forest.proofs.OwnersKept.{keeps_line, line_keeps, without_notes}
+use Rattle.tj_forest.proofs.Placed.{main_right, of_lines}
 use Rattle.tj_forest.proofs.PlacedTasks.{of_placed, to_placed}
+use Rattle.tj_forest.proofs.PromisesKept.{set_or_owned}
 use Rattle.tj_forest.proofs.ToldOnce.{to_line, to_point}
 use Rattle.tj_findings.specs.Findings.{told_task}
 use Rattle.tj_findings.specs.Searches.{owner_of}
 use Rattle.tj_findings.specs.Went.{by_setter, hand_in, handed, maker_place, or_else, set_by, set_in, setter_of, sets_by}
 use Rattle.tj_findings.specs.Went.{went_at, went_elsewhere, went_from}
-use Rattle.tj_forest.specs.WentLaws.{HandedOn, MadeAt, NeverHandedOn, NeverOwed, NeverSet, NobodyOwned, NobodySet}
-use Rattle.tj_forest.specs.WentLaws.{OwnedAtEnd, PromisesWentThere, SetThere, WentThere, set_note, sets_of}
-use Rattle.tj_findings.specs.declared.finding.Finding.{Finding}
-use Rattle.tj_findings.specs.declared.finding.Finding.TheVariants as finding
-use Rattle.tj_findings.specs.declared.finding.ToldTask.{ToldTask}
+use Rattle.tj_forest.specs.WentLaws.{HadNoRight, HandedOn, IsToldWent, MadeAt, NeverHandedOn, NeverOwed, NeverSet}
+use Rattle.tj_forest.specs.WentLaws.{NobodySet, OwnedAtEnd, PromisesWentThere, SetThere, WentThere}
+use Rattle.tj_forest.specs.WentLaws.{set_note, sets_of}
 use Rattle.tj_findings.specs.declared.finding.Went.{Went}
 use Rattle.tj_findings.specs.declared.finding.Went.TheVariants as went
 
@@ -90,19 +93,13 @@ has_in q xs i = has_of_times q xs (times_of_in q xs i)
 abbrev handed_note : TraceLine → HandNote → Name × Name
 handed_note l n = (child l.line.name n.thing, n.promise)
 
--- the task that failed, and its cause
-abbrev pub failed_so : Finding → Option (ToldTask × Cause)
-failed_so (finding.Failed t c m) = Some (t, c)
-failed_so f = None
+-- without their notes children were handed what they were
+hands_seen : (cs : List (Task Logged)) → flat_map handed_to (map (task_as erased) cs) ≡ flat_map handed_to cs
+hands_seen [] = refl
+hands_seen (c ∷ cs) = ap (λ z. handed_to c ++ z) (hands_seen cs)
 
-pub pair_is : (t u : ToldTask) (c d : Cause) → ◌≡◌ {A = Option (ToldTask × Cause)} (Some (t, c)) (Some (u, d))
-    → (t ≡ u) × (c ≡ d)
-pair_is t u c d e = (
-  ap (λ (p : ToldTask × Cause). p.0) (some_is (t, c) (u, d) e),
-  ap (λ (p : ToldTask × Cause). p.1) (some_is (t, c) (u, d) e),
-)
-
-module _ (strict : Bool) (root : PlacedState) (N : ℕ) (lines : List TraceLine) (o : Outcome)
+module _ (strict : Bool) (root : PlacedState) (fresh : IsFresh script_places script_awaits script_left 1 root.task)
+    (N : ℕ) (room : ¬ IsFull (script_program strict root) N) (lines : List TraceLine) (o : Outcome)
     (traced : AreTraced (logged_program strict root) N lines)
     (out : IsOutcome (meaning (script_program strict root) N) o) (right : StandsRight root) (tokens : List Token)
     (notes : List Noted) (derived : IsProgram notes root.task.script) where
@@ -116,6 +113,19 @@ module _ (strict : Bool) (root : PlacedState) (N : ℕ) (lines : List TraceLine)
 
   abbrev history_of : Task Logged → Point Logged
   history_of = history (logged_program strict root).rules V
+
+  -- what a line tells of the end of the task with its name
+  tells_of : (l : TraceLine) → IsIn l lines → (p : Point TaskState) → IsIn p (meaning (script_program strict root) N)
+      → p.name ≡ l.line.name → (ending_of p.stage ≡ Some l.line.ending) × (p.owed ≡ l.line.owes)
+  tells_of l there p i n =
+      let k = to_line strict root N lines o traced out p i in
+      let here = get_in lines l there in
+      let other = get_in lines k.0 k.1 in
+      let one : k.0 ≡ l = some_is k.0 l
+      (sym (found_there l.line.name lines traced.in_name_order other.0 k.0 other.1 (sym k.2.name ∙ n))
+      ∙ found_there l.line.name lines traced.in_name_order here.0 l here.1 refl) in
+      subst (λ (z : TraceLine). (ending_of p.stage ≡ Some z.line.ending) × (p.owed ≡ z.line.owes)) one
+      (k.2.stopped, k.2.owed)
 
   -- a line tells what was set
   set_there : (l : TraceLine) → IsIn l lines → (n : SetNote) (q : Name) → IsIn n l.sets → n.promise ≡ q
@@ -202,12 +212,13 @@ module _ (strict : Bool) (root : PlacedState) (N : ℕ) (lines : List TraceLine)
       ∙ sym (line_name strict root N t.0 l t.1) in
       let told = to_map (λ (m : HandNote). (child l.line.name m.thing, m.promise)) n l.hands f.0 in
       let handed = subst (IsIn (child l.line.name n.thing, n.promise))
-      (hands_are_whole strict root N p l there t.1.is) told in (
+      (hands_are_whole strict root N p l there t.1.is ∙ sym (hands_seen p.children)) told in (
         (
-          p,
-          there,
+          point_as erased p,
+          without_notes strict root N lines traced p there,
           name,
-          subst (λ r. IsIn {A = Name × Name} (child l.line.name n.thing, r) (flat_map handed_to p.children))
+          subst (λ r. IsIn {A = Name × Name} (child l.line.name n.thing, r)
+              (flat_map handed_to (map (task_as erased) p.children)))
               (same_is n.promise q f.1) handed,
         ),
         made_at l i n f.0,
@@ -235,12 +246,12 @@ module _ (strict : Bool) (root : PlacedState) (N : ℕ) (lines : List TraceLine)
       let there = to_map history_of t.0 _ t.1.there in
       let name = same_name (logged_program strict root).rules V t.0
       ∙ sym (line_name strict root N t.0 l t.1) in (
-        p,
-        there,
+        point_as erased p,
+        without_notes strict root N lines traced p there,
         name,
         λ y j.
-            let m = in_map (handed_note l) (y, q) l.hands
-            (subst (IsIn (y, q)) (sym (hands_are_whole strict root N p l there t.1.is)) j) in
+            let whole = hands_are_whole strict root N p l there t.1.is ∙ sym (hands_seen p.children) in
+            let m = in_map (handed_note l) (y, q) l.hands (subst (IsIn (y, q)) (sym whole) j) in
             not_found (λ (n : HandNote). same n.promise q) l.hands m.0 e m.1
             (ap (λ x. same x q) (ap (λ (z : Name × Name). z.1) (sym m.2)) ∙ same_self q),
       )
@@ -254,11 +265,14 @@ module _ (strict : Bool) (root : PlacedState) (N : ℕ) (lines : List TraceLine)
       (has_in q (sets_by l.0) (subst (λ x. IsIn x (sets_by l.0)) is
       (to_map (λ (m : SetNote). m.promise) n l.0.sets (subst (IsIn n) (sym line.sets) there))))
 
-  -- where they tell no owner, nobody owned it
-  nobody_owned : (q : Name) → owner_of lines q ≡ None → NobodyOwned strict root N q
-  nobody_owned q e y own =
-      let l = keeps_line strict root N lines traced y q own in
-      not_found (λ (m : TraceLine). has q (kept_by m)) lines l.0 e l.1 (has_in q (kept_by l.0) l.2)
+  -- where they tell neither a setter nor an owner, no task can have failed for the promise
+  nobody : (l : TraceLine) → IsIn l lines → (q : Name) → l.line.ending ≡ ending.Failed (cause.Owner q)
+      → NobodySet strict root N q → owner_of lines q ≡ None → ⊥
+  nobody l i q ends unset e =
+      set_or_owned strict root fresh N room lines traced q
+      (of_failure strict root fresh N room lines traced l i (cause.Owner q) ends) unset
+      (λ y own. let m = keeps_line strict root N lines traced y q own in
+      not_found (λ (m : TraceLine). has q (kept_by m)) lines m.0 e m.1 (has_in q (kept_by m.0) m.2))
 
   -- of the task with this line, which failed for the promise
   module _ (l : TraceLine) (there : IsIn l lines) (q : Name)
@@ -269,14 +283,8 @@ module _ (strict : Bool) (root : PlacedState) (N : ℕ) (lines : List TraceLine)
     -- a task whose line doesn't tell that it owed the promise didn't owe it
     never_owed : has q l.line.owes ≡ false → NeverOwed strict root N l.line.name q
     never_owed is (p, i, n, j) =
-        let k = to_line strict root N lines o traced out p i in
-        let here = get_in lines l there in
-        let other = get_in lines k.0 k.1 in
-        let one : k.0 ≡ l = some_is k.0 l
-        (sym (found_there l.line.name lines traced.in_name_order other.0 k.0 other.1 (sym k.2.name ∙ n))
-        ∙ found_there l.line.name lines traced.in_name_order here.0 l here.1 refl) in
-        let owed = subst (λ (z : TraceLine). IsIn q z.line.owes) one (subst (IsIn q) k.2.owed j) in
-        let t : false ≡ true = sym is ∙ has_in q l.line.owes owed in cc
+        let owed = has_in q l.line.owes (subst (IsIn q) (tells_of l there p i n).1 j) in
+        let t : false ≡ true = sym is ∙ owed in cc
 
     -- the task itself neither owed the promise nor set it nor handed it on
     module _ (clear : NeverOwed strict root N l.line.name q) (unset : NeverSet strict root N l.line.name q)
@@ -284,7 +292,7 @@ module _ (strict : Bool) (root : PlacedState) (N : ℕ) (lines : List TraceLine)
       -- who owned it
       by_owner : (m : Option TraceLine) → owner_of lines q ≡ m → NobodySet strict root N q
           → Right (or_else (option_map (λ (l : TraceLine). went.OwnedBy l.line.name) m) went.Nowhere)
-      by_owner None is none = (clear, (unset, (kept, (none, nobody_owned q is))))
+      by_owner None is none = absurd (nobody l there q ends none is)
       by_owner (Some m) is none = (clear, (unset, (kept, (none, owner_found m q is))))
 
       -- who set it
@@ -329,27 +337,40 @@ module _ (strict : Bool) (root : PlacedState) (N : ℕ) (lines : List TraceLine)
     of_line_went : Right (went_from lines l q)
     of_line_went = by_debt (has q l.line.owes) refl
 
-  -- a failure that is told
-  of_failure : (t : ToldTask) (q : Name) (m : Option Maker)
-      → IsOf lines o.cycles (finding.Failed t (cause.Owner q) m) → WentThere strict root N places t q t.went
-  of_failure t q m (a_cycle c i e) = absurd (cc)
-  of_failure t q m (a_wait l i p is e) = absurd (cc)
-  of_failure t q m (a_failure l i c is none e) =
-      let both = pair_is t (told_task lines l) (cause.Owner q) c (ap failed_so e) in
-      let ends : l.line.ending ≡ ending.Failed (cause.Owner q) = is ∙ ap ending.Failed (sym both.1) in
-      subst (λ u. WentThere strict root N places u q u.went) (sym both.0)
-      (subst (λ x. WentThere strict root N places (told_task lines l) q (went_at lines l x)) (sym ends)
-      (of_line_went l i q ends))
-  of_failure t q m (a_debt l i p owed e) = absurd (cc)
-  of_failure t q m (an_echo l i p is e) = absurd (cc)
+  -- where a promise went is told of the task with a line if it failed for want of a right to it, and else of none
+  of_line_told : (l : TraceLine) → IsIn l lines → IsToldWent strict root N places (told_task lines l)
+  of_line_told l i = record { there = went_right; no_other = no_other } where
+    went_right : (q : Name) → HadNoRight strict root N l.line.name q
+        → WentThere strict root N places (told_task lines l) q (went_at lines l l.line.ending)
+    went_right q (p, j, n, is) =
+        let ends : l.line.ending ≡ ending.Failed (cause.Owner q) =
+        some_is l.line.ending (ending.Failed (cause.Owner q)) (sym (tells_of l i p j n).0 ∙ is) in
+        subst (λ x. WentThere strict root N places (told_task lines l) q (went_at lines l x)) (sym ends)
+        (of_line_went l i q ends)
+
+    no_other : ((q : Name) → HadNoRight strict root N l.line.name q → ⊥)
+        → went_at lines l l.line.ending ≡ went.Nowhere
+    no_other none = by l.line.ending refl where
+      by : (e : Ending) → l.line.ending ≡ e → went_at lines l e ≡ went.Nowhere
+      by (ending.Done v) is = refl
+      by (ending.Waits q) is = refl
+      by (ending.Failed cause.Arith) is = refl
+      by (ending.Failed cause.Kind) is = refl
+      by (ending.Failed cause.Steps) is = refl
+      by (ending.Failed (cause.Broken q)) is = refl
+      by (ending.Failed (cause.Order q)) is = refl
+      by (ending.Failed (cause.Owner q)) is =
+          let p = to_point strict root N lines o traced out l i in
+          absurd (none q (p.0, p.1, p.2.name, p.2.stopped ∙ ap Some is))
 
 -- the law
 pub promises_went_there : PromisesWentThere
-promises_went_there script steps root main tokens notes derived strict N lines o traced out t q m i =
+promises_went_there script steps root main fresh tokens notes derived strict N lines o room traced out t i =
     let facts = main_right script steps root main in
+    let l = of_lines lines o.cycles t i in
     let told : (d : IsProgram notes root.task.script)
-    → WentThere strict root N (places_of tokens (in_tasks d 0)) t q t.went =
-    λ d. of_failure strict root N lines o traced out facts.0 tokens notes d t q m
-    (is_of lines o.cycles (finding.Failed t (cause.Owner q) m) i) in
-    subst (λ s. (d : IsProgram notes s) → WentThere strict root N (places_of tokens (in_tasks d 0)) t q t.went)
+    → IsToldWent strict root N (places_of tokens (in_tasks d 0)) t =
+    λ d. subst (IsToldWent strict root N (places_of tokens (in_tasks d 0))) (sym l.2)
+    (of_line_told strict root fresh N room lines o traced out facts.0 tokens notes d l.0 l.1) in
+    subst (λ s. (d : IsProgram notes s) → IsToldWent strict root N (places_of tokens (in_tasks d 0)) t)
     facts.1 told derived

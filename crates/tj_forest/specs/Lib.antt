@@ -9,3 +9,4 @@ pub mod Consequences
 pub mod WentLaws
 pub mod ReasonsTold
 pub mod TwiceHanded
+pub mod LetLaws

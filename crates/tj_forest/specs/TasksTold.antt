@@ -19,11 +19,13 @@ use Rattle.tj_findings.specs.Findings.{findings_of, stop_of}
 use Rattle.tj_forest.specs.Positions.{tasks_in}
 use Rattle.tj_findings.specs.declared.finding.ToldTask.{ToldTask}
 
--- a task of the meaning stopped so, and the task told stopped at the statement where the history that knows its stand
--- has come to in the end; its variables held at first, and where it failed by `arith` or `kind`, what that history says
+-- a task of the meaning stopped so, and one that knows its stand is there; the task told stopped at the statement where
+-- the history of that has come to in the end; its variables held at first, and where it failed by `arith` or `kind` in
+-- the end, what that history says
 pub record IsOfHistory (strict : Bool) (root : PlacedState) (N : ℕ) (t : ToldTask) : Type 0 where
   pub ending : Ending
   pub stopped : (t.stop ≡ stop_of ending) × StoppedSo (meaning (script_program strict root) N) t.name ending
+  pub is_task : (u : Task PlacedState) × IsIn u (tasks (placed_program strict root) (last_round N)) × (t.name ≡ u.name)
   pub stood : (u : Task PlacedState) → IsIn u (tasks (placed_program strict root) (last_round N)) → t.name ≡ u.name
       → let program = placed_program strict root in
       let p = history program.rules (given program (last_round N)) u in

@@ -1,20 +1,23 @@
 -- The law of where a promise went: what is told of a promise that a task had no right to is what the histories did, and
--- each statement that is told with it has a position. It speaks of no line of a trace.
-use Rattle.std.specs.Prelude.{◌≡◌, ℕ, suc, ◌*◌, Bool, List, ◌∷◌, Option, slice_get, Some}
+-- each statement that is told with it has a position. Of each other task none is told. It speaks of no line of a trace.
+use Rattle.std.specs.Prelude.{◌≡◌, ℕ, suc, ◌*◌, Bool, List, ◌∷◌, slice_get, Some}
 use Rattle.std.specs.List.{flat_map}
 use Rattle.tj_base.specs.ForkOrder.{Name, child}
 use Rattle.tj_base.specs.declared.cause.Cause.TheVariants as cause
+use Rattle.tj_body.specs.Asks.{IsFresh}
 use Rattle.tj_body.specs.History.{history}
 use Rattle.tj_body.specs.Points.{IsIn}
-use Rattle.tj_body.specs.Rounds.{given, last_round, meaning, tasks}
+use Rattle.tj_body.specs.Rounds.{IsFull, given, last_round, meaning, tasks}
 use Rattle.tj_body.specs.declared.point.Point.{Point}
 use Rattle.tj_body.specs.declared.point.PointStage.{PointStage}
 use Rattle.tj_body.specs.declared.point.PointStage.TheVariants as stage
 use Rattle.tj_body.specs.declared.point.Task.{Task}
+use Rattle.tj_eval.specs.Bodies.{script_awaits, script_left, script_places}
 use Rattle.tj_eval.specs.Stands.{IsPlacedMain, PlacedState}
 use Rattle.tj_eval.specs.Statements.{TaskState}
 use Rattle.tj_lex.specs.declared.token.Token.{Token}
 use Rattle.tj_mean.specs.Outcomes.{IsOutcome}
+use Rattle.tj_mean.specs.declared.outcome.Ending.TheVariants as ending
 use Rattle.tj_mean.specs.declared.outcome.Outcome.{Outcome}
 use Rattle.tj_syntax.specs.Grammar.{IsProgram}
 use Rattle.tj_syntax.specs.Marks.{Noted}
@@ -22,7 +25,7 @@ use Rattle.tj_syntax.specs.PlacesOf.{PlacesOfTask, places_of}
 use Rattle.tj_syntax.specs.Starts.{in_tasks}
 use Rattle.tj_syntax.specs.Trees as trees
 use Rattle.tj_trace.specs.HandLaws.{handed_to}
-use Rattle.tj_trace.specs.Logs.{Logged, logged_program}
+use Rattle.tj_trace.specs.Logs.{logged_program}
 use Rattle.tj_trace.specs.MadeAt.{made_until, placed_program, set_until}
 use Rattle.tj_trace.specs.SpotLaws.{HasPlace}
 use Rattle.tj_trace.specs.TraceLaws.{script_program}
@@ -30,10 +33,10 @@ use Rattle.tj_trace.specs.Traces.{AreTraced}
 use Rattle.tj_trace.specs.declared.line.Maker.{Maker}
 use Rattle.tj_trace.specs.declared.line.SetNote.{SetNote}
 use Rattle.tj_trace.specs.declared.line.TraceLine.{TraceLine}
-use Rattle.tj_forest.specs.Explanations.{OwedIt}
+use Rattle.tj_forest.specs.Explanations.{OwedIt, StoppedSo}
+use Rattle.tj_forest.specs.Positions.{tasks_in}
 use Rattle.tj_forest.specs.TwiceHanded.{EndsHandingTwice}
 use Rattle.tj_findings.specs.Findings.{findings_of}
-use Rattle.tj_findings.specs.declared.finding.Finding.TheVariants as finding
 use Rattle.tj_findings.specs.declared.finding.ToldTask.{ToldTask}
 use Rattle.tj_findings.specs.declared.finding.Went.{Went}
 use Rattle.tj_findings.specs.declared.finding.Went.TheVariants as went
@@ -75,7 +78,7 @@ module _ (strict : Bool) (root : PlacedState) (N : ℕ) where
 
   -- the history of the task with this name handed the promise to this child
   abbrev pub HandedOn : Name → Name → Name → Type 0
-  HandedOn x y q = (p : Point Logged) × IsIn p (meaning (logged_program strict root) N) × (p.name ≡ x)
+  HandedOn x y q = (p : Point TaskState) × IsIn p (meaning (script_program strict root) N) × (p.name ≡ x)
       × IsIn (y, q) (flat_map handed_to p.children)
 
   -- its history made the thing with this number, where it stood at that statement of that declaration
@@ -100,28 +103,28 @@ module _ (strict : Bool) (root : PlacedState) (N : ℕ) where
 
   -- it never handed it on
   abbrev pub NeverHandedOn : Name → Name → Type 0
-  NeverHandedOn x q = (p : Point Logged) × IsIn p (meaning (logged_program strict root) N) × (p.name ≡ x)
+  NeverHandedOn x q = (p : Point TaskState) × IsIn p (meaning (script_program strict root) N) × (p.name ≡ x)
       × ((y : Name) → IsIn (y, q) (flat_map handed_to p.children) → ⊥)
 
   -- it didn't owe the promise where it stopped
   abbrev pub NeverOwed : Name → Name → Type 0
   NeverOwed x q = OwedIt (meaning (script_program strict root) N) x q → ⊥
 
+  -- the task with this name failed for want of a right to this promise
+  abbrev pub HadNoRight : Name → Name → Type 0
+  HadNoRight x q = StoppedSo (meaning (script_program strict root) N) x (ending.Failed (cause.Owner q))
+
   -- no task set the promise
   abbrev pub NobodySet : Name → Type 0
   NobodySet q = (u : Task PlacedState) → IsIn u (tasks (placed_program strict root) (last_round N))
       → (n : SetNote) → IsIn n (sets_of u) → n.promise ≡ q → ⊥
 
-  -- no task owned it where it stopped
-  abbrev pub NobodyOwned : Name → Type 0
-  NobodyOwned q = (y : Name) → OwnedAtEnd y q → ⊥
-
   module _ (places : List PlacesOfTask) where
     -- this is where the promise went for which the task failed, with positions of the statements told; of others it is
-    -- told only if the task itself neither owed it nor set it nor handed it on, and of an owner only if nobody set it
+    -- told only if the task itself neither owed it nor set it nor handed it on, and of an owner only if nobody set it;
+    -- one of these is told
     abbrev pub WentThere : ToldTask → Name → Went → Type 0
-    WentThere t q went.Nowhere =
-        NeverOwed t.name q × (NeverSet t.name q × (NeverHandedOn t.name q × (NobodySet q × NobodyOwned q)))
+    WentThere t q went.Nowhere = ⊥
     WentThere t q (went.SetHere n) =
         NeverOwed t.name q × (SetThere t.name t.decl n q × HasPlace places t.decl n)
     WentThere t q (went.HandedHere x k n) =
@@ -135,12 +138,18 @@ module _ (strict : Bool) (root : PlacedState) (N : ℕ) where
     WentThere t q (went.OwnedBy y) =
         NeverOwed t.name q × (NeverSet t.name q × (NeverHandedOn t.name q × (NobodySet q × OwnedAtEnd y q)))
 
--- so it is told of each failure for want of a right to a promise, in a run from the body of `main` on
+-- where a promise went is told of a task that failed for want of a right to it, and of no other task
+pub record IsToldWent (strict : Bool) (root : PlacedState) (N : ℕ) (places : List PlacesOfTask) (t : ToldTask) : Type 0
+  where
+    pub there : (q : Name) → HadNoRight strict root N t.name q → WentThere strict root N places t q t.went
+    pub no_other : ((q : Name) → HadNoRight strict root N t.name q → ⊥) → t.went ≡ went.Nowhere
+
+-- so it is of each task that is told of a run from the body of `main` on which isn't full
 abbrev pub PromisesWentThere : Type 0
 PromisesWentThere = (script : List trees.Task) (steps : ℕ) (root : PlacedState) → IsPlacedMain script steps root
+    → IsFresh script_places script_awaits script_left 1 root.task
     → (tokens : List Token) (notes : List Noted) (derived : IsProgram notes script)
-    → (strict : Bool) (N : ℕ) (lines : List TraceLine) (o : Outcome)
+    → (strict : Bool) (N : ℕ) (lines : List TraceLine) (o : Outcome) → ¬ IsFull (script_program strict root) N
     → AreTraced (logged_program strict root) N lines → IsOutcome (meaning (script_program strict root) N) o
-    → (t : ToldTask) (q : Name) (m : Option Maker)
-    → IsIn (finding.Failed t (cause.Owner q) m) (findings_of lines o.cycles)
-    → WentThere strict root N (places_of tokens (in_tasks derived 0)) t q t.went
+    → (t : ToldTask) → IsIn t (flat_map tasks_in (findings_of lines o.cycles))
+    → IsToldWent strict root N (places_of tokens (in_tasks derived 0)) t

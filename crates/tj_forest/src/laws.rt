@@ -6,8 +6,9 @@ ghost use Rattle.tj_forest.specs.Consequences.{ConsequencesFollow, ForestsHoldEa
 ghost use Rattle.tj_forest.specs.Consequences.{GroupsHoldEachFinding};
 ghost use Rattle.tj_forest.specs.Explanations.{CycleOwnersAreNext, FindingsTellEachOnce};
 ghost use Rattle.tj_forest.specs.Explanations.{NothingIsFoundWhereFine, WaitsLeadToToldCycles};
+ghost use Rattle.tj_forest.specs.LetLaws.{LetsAreTold};
 ghost use Rattle.tj_forest.specs.Origins.{EchoesHaveOrigins, EchoesNameEarlierCells};
-ghost use Rattle.tj_forest.specs.Positions.{TasksAreToldRight};
+ghost use Rattle.tj_forest.specs.Positions.{MainStandsRight, TasksAreToldRight};
 ghost use Rattle.tj_forest.specs.ReasonsTold.{ReasonsAreTold};
 ghost use Rattle.tj_forest.specs.TasksTold.{TasksAreOfHistories};
 ghost use Rattle.tj_forest.specs.WentLaws.{PromisesWentThere};
@@ -52,8 +53,8 @@ pub fn waits_lead_to_told_cycles()
 /// stopped and was forked.
 pub fn tasks_are_told_right()
     // Law: in a run from the body of `main` on, each task that a finding tells has its declaration,
-    // a statement there at which a task can stop so, and a fork of this declaration if it isn't the
-    // root. Each of these statements has a position.
+    // a statement there at which a task can stop as its history did, and a fork of this declaration if
+    // it isn't the root. Each of these statements has a position.
     ensures { TasksAreToldRight }
 {}
 
@@ -76,8 +77,8 @@ pub fn echoes_name_earlier_cells()
 pub fn tasks_are_of_histories()
     // Law: each task that a finding tells is told to have ended, failed or waited as its history
     // did, and at the statement to which the history of the body that knows its stand has come in
-    // the end. The values that its variables are told to have held at first, and where it failed by
-    // `arith` or `kind` in the end, are those of that history.
+    // the end; there is such a history. The values that its variables are told to have held at first,
+    // and where it failed by `arith` or `kind` in the end, are those of that history.
     ensures { (strict : Bool) (root : PlacedState) → TasksAreOfHistories strict root }
 {}
 
@@ -117,24 +118,42 @@ pub fn consequences_follow()
     waits_lead_to_a_cycle::<ScriptBody>();
 }
 
-/// Where a promise went that a task had no right to is told as the histories did it.
+/// Where a promise went that a task had no right to is told as the histories did it, and of no other task.
 pub fn promises_went_there()
-    // Law: in a run from the body of `main` on, what is told of where a promise went is so, of each
-    // failure for a promise to which the task had no right. Either the task itself owed it, and its
-    // history ended in a fork to which it handed it twice; or, if it didn't owe it, its history set it,
-    // where it stood at the statement told; or it never set it and handed it on, to the child that is
-    // told, which its history made at the statement told. Only if it did none of these another task is
-    // told: one of the run whose history set it, where it stood at the statement told; or, if no task
-    // set it, one that owned it where it stopped. Nothing is told only if no task set it, and none owned
-    // it where it stopped. Each statement that is told has a position.
+    // Law: in a run from the body of `main` on that isn't full, it is told where a promise went of each
+    // task that is told and failed for this promise, to which it had no right; and it went there. Either
+    // the task itself owed it, and its history ended in a fork to which it handed it twice; or, if it
+    // didn't owe it, its history set it, where it stood at the statement told; or it never set it and
+    // handed it on, to the child that is told, which its history made at the statement told. Only if it
+    // did none of these another task is told: one of the run whose history set it, where it stood at the
+    // statement told; or, if no task set it, one that owned it where it stopped. One of these is always
+    // told. Each statement that is told has a position. Of a task that ended, waits or failed for another
+    // cause nothing is told of where a promise went.
     ensures { PromisesWentThere }
 {}
 
 /// Each failure by `arith` or `kind` is told with a reason.
 pub fn reasons_are_told()
     // Law: in a run from the body of `main` on of each task that is told to have failed by `arith`
-    // or `kind` a reason is found, and it tells of this fault. It is computed of the statement and the
-    // variables' values that the finding has. These are those of the task's history, by the law
-    // `tasks_are_of_histories`.
+    // or `kind` a reason is found, and it tells of this fault: by the statement where the task stopped
+    // and what its variables held, it is that of the statement's first part that fails or isn't what is
+    // wanted there. The statement and the values are those of the finding, and these are those of the
+    // task's history, by the law `tasks_are_of_histories`.
     ensures { ReasonsAreTold }
+{}
+
+/// A promise is told with the variable of the `let` that made it, and without one where none did.
+pub fn lets_are_told()
+    // Law: over the statements of a script what is told in front of `made at` of a promise is a name
+    // exactly where the statement told is a `let` that gives the variable with this name a new promise.
+    // Each such `let` of the script has a variable with a name, and is told with it. It is the script's
+    // own statement of which this speaks, by its number in its declaration.
+    ensures { LetsAreTold }
+{}
+
+/// The body of `main` stands right.
+pub fn main_stands_right()
+    // Law: the body of `main` of a script stands right at its beginning, and is that of this script. So
+    // the laws of tj_trace that ask it of a root hold of a run from there on.
+    ensures { MainStandsRight }
 {}

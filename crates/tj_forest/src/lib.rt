@@ -21,7 +21,8 @@ mod went;
 pub use laws::{
     cells_are_told_right, consequences_follow, cycle_owners_are_next, echoes_have_origins,
     echoes_name_earlier_cells, findings_tell_each_once, forests_hold_each_finding,
-    groups_hold_each_finding, nothing_is_found_where_fine, promises_went_there, reasons_are_told,
-    tasks_are_of_histories, tasks_are_told_right, waits_lead_to_told_cycles,
+    groups_hold_each_finding, lets_are_told, main_stands_right, nothing_is_found_where_fine,
+    promises_went_there, reasons_are_told, tasks_are_of_histories, tasks_are_told_right,
+    waits_lead_to_told_cycles,
 };
 pub use runs::{forest_of_run, picture};

@@ -1,0 +1,2 @@
+mod ObjectLines
+mod ObjectNames

@@ -9,3 +9,7 @@ mod went;
 
 pub use json::fine_json;
 pub use trees::forest_json;
+
+mod laws;
+
+pub use laws::objects_tell_each_finding;

@@ -1,3 +1,4 @@
 pub mod Reasons
 pub mod ReasonLaws
 pub mod FailureLaws
+pub mod FirstFaults

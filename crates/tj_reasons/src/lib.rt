@@ -10,3 +10,7 @@ mod values;
 pub use laws::{failures_have_reasons, reasons_are_right};
 pub use reason::{Met, Reason, Wanted};
 pub use reasons::failed_at;
+
+mod first_laws;
+
+pub use first_laws::reasons_are_first;

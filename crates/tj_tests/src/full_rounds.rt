@@ -14,12 +14,18 @@ use tj_base::Oom;
 use tj_base::Sort::{self, Promise, Task};
 use tj_eval::{PlacedBody, Sizes, placed_main};
 use tj_mean::{NameMap, first_full, history, root_task};
-use tj_trace::most_made;
+use tj_trace::{most_by_depths, most_made};
 
 /// In round 1 there are `main`'s result, its promise q and the results of the two that it forks. In
 /// round 2 each of those has two more below it, each of which has a promise.
 const SCRIPT: &str = "task pair() { fork leaf(); fork leaf(); }\n\
     task main() { let q = new; fork pair(); fork pair(); }\n\
+    task leaf() { let p = new; }\n";
+
+/// The same, but that `main` joins the second pair at its end: rounds have the same cells, though one
+/// task waits.
+const WAITING: &str = "task pair() { fork leaf(); fork leaf(); }\n\
+    task main() { let q = new; fork pair(); let t = fork pair(); let v = join t; }\n\
     task leaf() { let p = new; }\n";
 
 /// A limit, the first round that has more cells, and what made most of one cell more than the limit:
@@ -97,16 +103,35 @@ fn makes_three(rt: &impl Abort, alloc: Global, root: &PlacedBody) -> Result<(), 
     Ok(())
 }
 
+/// Asserts all rows of the script with this root, and that its meaning has twelve cells.
+fn all_are_told(rt: &impl Abort, alloc: Global, root: &PlacedBody) -> Result<(), Oom>
+    requires root { IsFresh placed_places placed_awaits placed_left 1 root.now }
+{
+    makes_three(rt, alloc, root)?;
+    for row in ROWS {
+        is_told(rt, alloc, root, row)?;
+    }
+    let fits = most_made(alloc, root, 12, false)?;
+    holds(rt, "twelve cells are enough", fits.is_none());
+    Ok(())
+}
+
 #[test]
 fn full_rounds_are_told(rt: HostRuntime) -> Result<(), Fail> {
-    let script = script(&rt, rt.alloc(), SCRIPT);
-    let sizes = Sizes::of(rt.alloc(), &script)?;
-    let root = placed_main(rt.alloc(), &script, &sizes, 1000)?;
-    makes_three(&rt, rt.alloc(), &root)?;
-    for row in ROWS {
-        is_told(&rt, rt.alloc(), &root, row)?;
-    }
-    let fits = most_made(rt.alloc(), &root, 12, false)?;
-    holds(&rt, "twelve cells are enough", fits.is_none());
+    let first = script(&rt, rt.alloc(), SCRIPT);
+    let sizes = Sizes::of(rt.alloc(), &first)?;
+    let root = placed_main(rt.alloc(), &first, &sizes, 1000)?;
+    all_are_told(&rt, rt.alloc(), &root)?;
+    Ok(())
+}
+
+#[test]
+fn full_rounds_are_told_where_one_waits(rt: HostRuntime) -> Result<(), Fail> {
+    let second = script(&rt, rt.alloc(), WAITING);
+    let sizes = Sizes::of(rt.alloc(), &second)?;
+    let root = placed_main(rt.alloc(), &second, &sizes, 1000)?;
+    all_are_told(&rt, rt.alloc(), &root)?;
+    let early = most_by_depths(rt.alloc(), &root, 3, false)?;
+    holds(&rt, "main waits", early.is_none());
     Ok(())
 }

@@ -1,3 +1,5 @@
 pub mod WhyTexts
 pub mod Inner
 pub mod WentTexts
+pub mod LineLaws
+pub mod GroupLaws

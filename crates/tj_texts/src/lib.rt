@@ -14,3 +14,7 @@ mod went_lines;
 mod why_lines;
 
 pub use why_lines::{fine_text, forest_text};
+
+mod laws;
+
+pub use laws::{groups_say_the_same, texts_tell_each_finding};

@@ -73,11 +73,12 @@ module _ (program : Program Logged) (n : ℕ) where
 
   -- at first the root is taken
   pub begins_gathered : (pending : List (Found Logged)) (makers : List Maker)
-      → IsTaken program.rules V (root_task program.root) (suc n) [] pending [] makers → IsGathered pending makers
+      → IsTaken (history program.rules V (root_task program.root)) (suc n) [] pending [] makers
+      → IsGathered pending makers
   begins_gathered pending makers h = record {
     whole = ap (λ l. l ++ still_makers below pending) h.made
         ∙ ap (λ l. promises_by (root_task program.root) ++ l)
-        (h.still ∙ append-nil (forked (suc n) (root_task program.root)))
+        (h.still below ∙ append-nil (forked (suc n) (root_task program.root)))
         ∙ sym (below_begins (suc n) (root_task program.root));
     of_round = λ w i t j. by w (h.from w i) t j;
   }
@@ -116,11 +117,11 @@ module _ (program : Program Logged) (n : ℕ) where
       still_there = sym (ap (λ l. makers ++ still_makers below l) stack ∙ ap (λ l. makers ++ l) (still_last below ws w))
 
       module _ (pending' : List (Found Logged)) (makers' : List Maker)
-          (h : IsTaken program.rules V w.task w.depth ws pending' (makers ++ w.maker ∷ []) makers') where
+          (h : IsTaken (history program.rules V w.task) w.depth ws pending' (makers ++ w.maker ∷ []) makers') where
         front : makers' ++ still_makers below pending'
             ≡ (makers ++ w.maker ∷ []) ++ (promises_by w.task ++ (forked w.depth w.task ++ still_makers below ws))
         front = ap (λ l. l ++ still_makers below pending') h.made
-            ∙ ap (λ l. ((makers ++ w.maker ∷ []) ++ promises_by w.task) ++ l) h.still
+            ∙ ap (λ l. ((makers ++ w.maker ∷ []) ++ promises_by w.task) ++ l) (h.still below)
             ∙ append_assoc (makers ++ w.maker ∷ []) (promises_by w.task)
             (forked w.depth w.task ++ still_makers below ws)
 

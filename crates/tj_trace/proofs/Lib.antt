@@ -25,3 +25,8 @@ pub mod OneMost
 pub mod MostTold
 pub mod MostPlaced
 pub mod RightSets
+pub mod EndedLines
+pub mod DepthLists
+pub mod DepthRounds
+pub mod DepthTaken
+pub mod Counted

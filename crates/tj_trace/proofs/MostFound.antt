@@ -20,8 +20,9 @@ use Rattle.tj_body.proofs.Histories.Points.{stopped}
 use Rattle.tj_body.proofs.Proper.{root_proper}
 use Rattle.tj_mean.specs.FirstFull.{IsFirstFull}
 use Rattle.tj_trace.specs.Inner.LogLaws.{logged_obeys}
-use Rattle.tj_trace.specs.Inner.RoundMakers.{IsTaken, forked_makers, is_of, made_below, made_by}
+use Rattle.tj_trace.specs.Inner.RoundMakers.{IsTaken, forked_makers, is_of, made_by}
 use Rattle.tj_trace.specs.Inner.RoundMakers.{round_makers, still_makers}
+use Rattle.tj_trace.specs.Inner.TaskDepths.{AreAsInRound}
 use Rattle.tj_trace.specs.Logs.{Logged, logged, logged_asks, logged_awaits, logged_left, logged_places, logged_then}
 use Rattle.tj_trace.specs.MadeCells.{AreMadeBy}
 use Rattle.tj_trace.specs.MostMade.{IsMostMade}
@@ -94,44 +95,43 @@ module _ (strict : Bool) (V : Assignment) (t : Task Logged) (p : Point Logged) (
       → ((below : ℕ → Task Logged → List Maker)
       → still_makers below pending ≡ forked_makers below d forks p.children ++ still_makers below ws)
       → ((w : Found Logged) → IsIn w pending → IsIn w ws ⊎ ((suc w.depth ≡ d) × IsIn w.task p.children))
-      → IsTaken (rules strict) V t d ws pending ms makers
+      → IsTaken (history (rules strict) V t) d ws pending ms makers
   takes_up d ws pending ms makers made still from = record {
     made = made ∙ ap (λ (q : Point Logged). ms ++ filter (is_of sort.Promise) q.body.makers) is;
-    still = still below
+    still = λ below. still below
         ∙ ap (λ (l : List Maker). forked_makers below d l p.children ++ still_makers below ws) are_forks
         ∙ ap (λ (q : Point Logged). forked_makers below d (filter (is_of sort.Task) q.body.makers) q.children
         ++ still_makers below ws) is;
     from = λ w i. subst (λ (q : Point Logged). IsIn w ws ⊎ ((suc w.depth ≡ d) × IsIn w.task q.children)) is
         (from w i);
   }
-    where
-      below : ℕ → Task Logged → List Maker
-      below = made_below (rules strict) V
 
 module _ (program : Program Logged) (k : ℕ) (W : Assignment)
-    (round : (n : ℕ) × (k ≡ suc n) × (W ≡ given program n)) where
-  same_number : k - 1 ≡ round.0
-  same_number = let e = round.1 in omega arith
+    (round : AreAsInRound program k W) where
+  same_number : k - 1 ≡ round.before
+  same_number = let e = round.number_is in omega arith
 
   pub same_round : suc (k - 1) ≡ k
-  same_round = let e = round.1 in omega arith
+  same_round = let e = round.number_is in omega arith
 
-  same_given : W ≡ given program (k - 1)
-  same_given = round.2 ∙ ap (λ m. given program m) (sym same_number)
+  same_history : (t : Task Logged) → IsIn t (tasks program (suc (k - 1)))
+      → history program.rules W t ≡ history program.rules (given program (k - 1)) t
+  same_history = subst (λ m. (t : Task Logged) → IsIn t (tasks program (suc m))
+      → history program.rules W t ≡ history program.rules (given program m) t) (sym same_number) round.alike
 
   -- at first the root was taken
   pub begins_found : (t : Task Logged) → t ≡ root_task program.root → (ws : List (Found Logged)) → ws ≡ []
       → (ms : List Maker) → ms ≡ [] → (pending : List (Found Logged)) (makers : List Maker)
-      → IsTaken program.rules W t k ws pending ms makers → IsGathered program (k - 1) pending makers
+      → IsTaken (history program.rules W t) k ws pending ms makers → IsGathered program (k - 1) pending makers
   begins_found t t_is ws ws_is ms ms_is pending makers h =
       let root = root_task program.root in
       let V = given program (k - 1) in
       begins_gathered program (k - 1) pending makers
-      (subst (λ x. IsTaken program.rules V root x [] pending [] makers) (sym same_round)
-      (subst (λ x. IsTaken program.rules V root k [] pending x makers) ms_is
-      (subst (λ x. IsTaken program.rules V root k x pending ms makers) ws_is
-      (subst (λ x. IsTaken program.rules V x k ws pending ms makers) t_is
-      (subst (λ x. IsTaken program.rules x t k ws pending ms makers) same_given h)))))
+      (subst (λ x. IsTaken (history program.rules V root) x [] pending [] makers) (sym same_round)
+      (subst (λ x. IsTaken (history program.rules V root) k [] pending x makers) ms_is
+      (subst (λ x. IsTaken (history program.rules V root) k x pending ms makers) ws_is
+      (subst (λ p. IsTaken p k ws pending ms makers)
+      (ap (λ x. history program.rules W x) t_is ∙ same_history root (inl refl)) h))))
 
   module _ (pending : List (Found Logged)) (makers : List Maker)
       (u : IsGathered program (k - 1) pending makers) where
@@ -150,11 +150,12 @@ module _ (program : Program Logged) (k : ℕ) (W : Assignment)
       next_found = next_gathered program (k - 1) pending makers u ws w stack
 
       module _ (ms' : List Maker) (noted : ms' ≡ makers ++ w.maker ∷ []) (pending' : List (Found Logged))
-          (makers' : List Maker) (h : IsTaken program.rules W w.task w.depth ws pending' ms' makers') where
+          (makers' : List Maker) (h : IsTaken (history program.rules W w.task) w.depth ws pending' ms' makers') where
         pub takes_found : IsGathered program (k - 1) pending' makers'
         takes_found = takes_gathered program (k - 1) pending makers u ws w stack pending' makers'
-            (subst (λ x. IsTaken program.rules (given program (k - 1)) w.task w.depth ws pending' x makers') noted
-            (subst (λ x. IsTaken program.rules x w.task w.depth ws pending' ms' makers') same_given h))
+            (subst (λ x. IsTaken (history program.rules (given program (k - 1)) w.task) w.depth ws pending' x makers')
+            noted
+            (subst (λ p. IsTaken p w.depth ws pending' ms' makers') (same_history w.task next_found) h))
 
         -- there are more
         pub grows_found : length makers < length makers'

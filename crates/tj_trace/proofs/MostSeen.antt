@@ -3,8 +3,6 @@ use Rattle.std.proofs.Common.{◌≡◌, ℕ, zero, suc, ◌+◌, ◌<◌, ◌�
 use Rattle.std.proofs.Common.{refl, sym, ◌∙◌, subst, arith, ap, get_or, length, take, eqb-true}
 use Rattle.std.proofs.Common.{Bool, true, false, ◌&&◌, ◌||◌, nat_eq}
 use Rattle.std.proofs.lemmas.List.{take_all, take_more}
-use Rattle.std.specs.List.{list_any}
-use Rattle.std.specs.Prelude.{count_by}
 use Rattle.tj_body.specs.Points.{IsIn}
 use Rattle.tj_trace.specs.MostOf.{IsMostOf, IsNotAfter, made_count, same_statement}
 use Rattle.tj_trace.specs.declared.line.Maker.{Maker}
@@ -33,41 +31,14 @@ get_in [] n d h = absurd (omega arith)
 get_in (x ∷ xs) zero d h = inl refl
 get_in (x ∷ xs) (suc n) d h = inr (get_in xs n d (omega arith))
 
-first_in : {A : Type 0} (xs ys : List A) (x : A) → IsIn x xs → IsIn x (xs ++ ys)
-first_in [] ys x i = absurd i
-first_in (z ∷ zs) ys x (inl e) = inl e
-first_in (z ∷ zs) ys x (inr i) = inr (first_in zs ys x i)
-
-last_in : {A : Type 0} (xs : List A) (x : A) → IsIn x (xs ++ x ∷ [])
-last_in [] x = inl refl
-last_in (z ∷ zs) x = inr (last_in zs x)
-
 pub same_default : {A : Type 0} (l : List A) (n : ℕ) (d e : A) → n < length l → get_or l n d ≡ get_or l n e
 same_default [] n d e h = absurd (omega arith)
 same_default (x ∷ xs) zero d e h = refl
 same_default (x ∷ xs) (suc n) d e h = same_default xs n d e (omega arith)
 
--- they are one statement
-abbrev AreSame : Maker → Maker → Type 0
-AreSame m k = (m.decl ≡ k.decl) × (m.at ≡ k.at)
-
-same_is : (m k : Maker) → same_statement m k ≡ true → AreSame m k
-same_is m k e = by (nat_eq m.decl k.decl) (nat_eq m.at k.at) refl refl e where
-  by : (a b : Bool) → nat_eq m.decl k.decl ≡ a → nat_eq m.at k.at ≡ b → (a && b) ≡ true → AreSame m k
-  by true true p q r = (eqb-true m.decl k.decl p, eqb-true m.at k.at q)
-  by true false p q r = cc
-  by false b p q r = cc
-
--- one of these is the same statement
-one_same : (m : Maker) (ks : List Maker) → list_any (λ k. same_statement m k) ks ≡ true
-    → (k : Maker) × IsIn k ks × AreSame m k
-one_same m [] e = cc
-one_same m (k ∷ ks) e = by (λ q. one_same m ks q) (same_statement m k) refl e where
-  by : (list_any (λ k. same_statement m k) ks ≡ true → (j : Maker) × IsIn j ks × AreSame m j)
-      → (b : Bool) → same_statement m k ≡ b → (b || list_any (λ k. same_statement m k) ks) ≡ true
-      → (j : Maker) × IsIn j (k ∷ ks) × AreSame m j
-  by rec true p q = (k, inl refl, same_is m k p)
-  by rec false p q = let r = rec q in (r.0, inr r.1, r.2)
+-- the statement with so many
+abbrev pub most_with : Maker → ℕ → Most
+most_with m k = record { maker = m; count = k }
 
 module _ (makers : List Maker) where
   -- none of those seen made more, and none that made as many stands earlier
@@ -133,78 +104,28 @@ module _ (makers : List Maker) where
       let h = subst (λ s. IsAhead s most) (take_all n makers l) a in
       record { among = h.among; count = h.count; none_more = h.none_more; first = h.first }
 
-  -- it is ahead of the first n, and each statement that was counted stands among these
-  pub record IsTallied (n : ℕ) (counted : List Maker) (most : Most) : Type 0 where
-    pub ahead : IsAhead (take n makers) most
-    pub there : (k : Maker) → IsIn k counted → IsIn k (take n makers)
-
   -- one more is seen
-  module _ (n : ℕ) (within : n < length makers) (counted : List Maker) (most : Most)
-      (h : IsTallied n counted most) (m : Maker) (is : m ≡ get_or makers n m) where
+  module _ (n : ℕ) (within : n < length makers) (most next : Most) (h : IsAhead (take n makers) most) (m : Maker)
+      (is : m ≡ get_or makers n m) (next_is : next ≡ record { maker = m; count = made_count m makers }) where
     more : take (n + 1) makers ≡ take n makers ++ m ∷ []
     more = take_more makers n m within ∙ ap (λ z. take n makers ++ z ∷ []) (sym is)
 
-    among : IsIn m makers
-    among = subst (λ z. IsIn z makers) (sym is) (get_in makers n m within)
+    among : IsIn next.maker makers
+    among = subst (λ (z : Most). IsIn z.maker makers) (sym next_is)
+        (subst (λ z. IsIn z makers) (sym is) (get_in makers n m within))
 
-    further : (k : Maker) → IsIn k (take n makers) → IsIn k (take (n + 1) makers)
-    further k i = subst (λ l. IsIn k l) (sym more) (first_in (take n makers) (m ∷ []) k i)
+    count : next.count ≡ made_count next.maker makers
+    count = subst (λ (z : Most). z.count ≡ made_count z.maker makers) (sym next_is) refl
 
-    -- its statement was counted
-    pub skips : list_any (λ k. same_statement m k) counted ≡ true → IsTallied (n + 1) counted most
-    skips e = record {
-      ahead = subst (λ l. IsAhead l most) (sym more) (stays_ahead (take n makers) most next h.ahead among refl (
-        subst (λ c. c ≤ most.count) (sym as_often) (h.ahead.none_more k.0 i),
-        λ e. alike (h.ahead.first k.0 i (sym as_often ∙ e)),
-      ));
-      there = λ k j. further k (h.there k j);
-    }
-      where
-        k : (k : Maker) × IsIn k counted × AreSame m k
-        k = one_same m counted e
+    seen : take n makers ++ next.maker ∷ [] ≡ take (n + 1) makers
+    seen = ap (λ (z : Most). take n makers ++ z.maker ∷ []) next_is ∙ sym more
 
-        i : IsIn k.0 (take n makers)
-        i = h.there k.0 k.1
+    -- it is no further
+    pub more_stays : (next.count ≤ most.count) × (next.count ≡ most.count → IsNotAfter most.maker next.maker)
+        → IsAhead (take (n + 1) makers) most
+    more_stays b = subst (λ l. IsAhead l most) seen (stays_ahead (take n makers) most next h among count b)
 
-        next : Most
-        next = record { maker = m; count = made_count m makers }
-
-        as_often : made_count m makers ≡ made_count k.0 makers
-        as_often = ap (λ d. count_by (λ z. nat_eq d z.decl && nat_eq m.at z.at) makers) k.2.0
-            ∙ ap (λ a. count_by (λ z. nat_eq k.0.decl z.decl && nat_eq a z.at) makers) k.2.1
-
-        alike : IsNotAfter most.maker k.0 → IsNotAfter most.maker m
-        alike (inl l) = let e = k.2.0 in inl (omega arith)
-        alike (inr l) = let e = k.2.1 in let g = l.1 in inr (l.0 ∙ sym k.2.0, omega arith)
-
-    -- it is counted
-    module _ (counted' : List Maker) (pushed : counted' ≡ counted ++ m ∷ []) where
-      counted_there : (k : Maker) → IsIn k counted' → IsIn k (take (n + 1) makers)
-      counted_there k j = by (either_in counted k m (subst (λ l. IsIn k l) pushed j)) where
-        by : IsIn k counted ⊎ (k ≡ m) → IsIn k (take (n + 1) makers)
-        by (inl i) = further k (h.there k i)
-        by (inr e) = subst (λ l. IsIn k l) (sym more) (subst (λ z. IsIn z (take n makers ++ m ∷ [])) (sym e)
-            (last_in (take n makers) m))
-
-      module _ (next : Most) (next_is : next ≡ record { maker = m; count = made_count m makers }) where
-        -- it is no further
-        pub tally_stays : (next.count ≤ most.count) × (next.count ≡ most.count → IsNotAfter most.maker next.maker)
-            → IsTallied (n + 1) counted' most
-        tally_stays b = record {
-          ahead = subst (λ l. IsAhead l most) (sym more) (stays_ahead (take n makers) most
-              (record { maker = m; count = made_count m makers }) h.ahead among refl
-              (subst (λ (z : Most). (z.count ≤ most.count) × (z.count ≡ most.count → IsNotAfter most.maker z.maker))
-              next_is b));
-          there = counted_there;
-        }
-
-        -- it is ahead
-        pub tally_gets : (most.count < next.count) ⊎ ((next.count ≡ most.count) × IsNotAfter next.maker most.maker)
-            → IsTallied (n + 1) counted' next
-        tally_gets b = subst (λ z. IsTallied (n + 1) counted' z) (sym next_is) (record {
-          ahead = subst (λ l. IsAhead l (record { maker = m; count = made_count m makers })) (sym more)
-              (gets_ahead (take n makers) most (record { maker = m; count = made_count m makers }) h.ahead among refl
-              (subst (λ (z : Most). (most.count < z.count) ⊎ ((z.count ≡ most.count)
-              × IsNotAfter z.maker most.maker)) next_is b));
-          there = counted_there;
-        })
+    -- it is ahead
+    pub more_gets : (most.count < next.count) ⊎ ((next.count ≡ most.count) × IsNotAfter next.maker most.maker)
+        → IsAhead (take (n + 1) makers) next
+    more_gets b = subst (λ l. IsAhead l next) seen (gets_ahead (take n makers) most next h among count b)

@@ -17,7 +17,8 @@ use Rattle.tj_trace.specs.TraceLaws.{script_program, IsOfOutcome, IsFullAlike}
 use Rattle.tj_trace.specs.Inner.LogLaws.{are_seen}
 use Rattle.tj_trace.proofs.Told.{same_told}
 
-seen : (strict : Bool) (root : PlacedState)
+-- a body with notes is seen as the script's task
+pub seen : (strict : Bool) (root : PlacedState)
     → IsSeenAs erased (logged_program strict root) (script_program strict root)
 seen strict root = record { rules = are_seen strict; root = refl }
 
@@ -46,7 +47,7 @@ of_histories qs told lines o e p a (ss, t, x) =
     x.lines (subst Ascend (named lines) a) x.lines_in_order
 
 -- of histories that are seen as others the same is told
-told_as : (ps : List (Point Logged)) → map stopped_of (map (point_as erased) ps) ≡ map stopped_of ps
+pub told_as : (ps : List (Point Logged)) → map stopped_of (map (point_as erased) ps) ≡ map stopped_of ps
 told_as [] = refl
 told_as (p ∷ ps) = ap (λ os. stopped_of p ∷ os) (told_as ps)
 

@@ -2,3 +2,5 @@
 pub mod LogLaws
 pub mod LineParts
 pub mod RoundMakers
+pub mod TaskDepths
+pub mod StatementCounts

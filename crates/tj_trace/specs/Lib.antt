@@ -13,3 +13,4 @@ pub mod MostOf
 pub mod MadeCells
 pub mod MostMade
 pub mod MostLaws
+pub mod Ended

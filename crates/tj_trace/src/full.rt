@@ -1,8 +1,9 @@
 //! The statement that made most of the cells where a program needs more than the limit: the first
 //! round that has more is gone through once more, in name order, until there are so many.
-ghost use Rattle.std.specs.Prelude.{ℕ, ◌≡◌, ◌<◌, ◌≤◌, suc, take, IfNone, IfOk, IfSome};
+ghost use Rattle.std.specs.Prelude.{◌≡◌, ◌<◌, ◌≤◌, take, IfNone, IfOk, IfSome};
 ghost use Rattle.tj_base.specs.declared.cell.TheConstants.{MAX_CELLS};
 ghost use Rattle.tj_body.specs.Asks.{IsFresh};
+ghost use Rattle.tj_body.specs.History as history;
 ghost use Rattle.tj_body.specs.Points.{IsProper};
 ghost use Rattle.tj_body.specs.Programs.{program_of, rules_of};
 ghost use Rattle.tj_body.specs.Rounds as rounds;
@@ -11,8 +12,10 @@ ghost use Rattle.tj_mean.specs.Inner.Assignments.{assignment_in};
 ghost use Rattle.tj_trace.specs.Logs.{logged, logged_asks, logged_awaits, logged_left};
 ghost use Rattle.tj_trace.specs.Logs.{logged_places, logged_program, logged_then};
 ghost use Rattle.tj_trace.specs.Inner.RoundMakers.{IsTaken, round_makers};
+ghost use Rattle.tj_trace.specs.Inner.TaskDepths.{AreAsInRound};
 ghost use Rattle.tj_trace.specs.MostMade.{IsMostMade};
 
+use crate::depths::full_depth;
 use crate::found::{Found, follow};
 use crate::line::Maker;
 use crate::logged::LoggedBody;
@@ -21,7 +24,7 @@ use std::alloc::Global;
 use tj_base::Oom;
 use tj_body::{Body, Entry, Point, Task};
 use tj_eval::PlacedBody;
-use tj_mean::{FullRound, NameMap, first_full, history, root_task};
+use tj_mean::{NameMap, first_full, history, root_task};
 
 /// The statement that made most of the first cells of the first round that has more than `cells`
 /// cells.
@@ -42,12 +45,42 @@ pub fn most_made(
     ensures none { IfOk result (λ found.
         IfNone found (¬ rounds.IsFull (logged_program strict root.now) cells)) }
 {
+    let early = most_by_depths(alloc, root, cells, strict)?;
+    if early.is_some() {
+        return Ok(early);
+    }
     let noting = LoggedBody::of(alloc, root.twin(alloc)?)?;
     let found = first_full(alloc, &noting, cells, strict)?;
     let Some(round) = found else {
         return Ok(None);
     };
-    let makers = first_makers(alloc, &noting, cells, strict, &round)?;
+    let makers = first_makers(alloc, &noting, cells, strict, round.number, &round.given)?;
+    most_of(alloc, makers.as_slice())
+}
+
+/// That statement, found faster and with little memory, where none of the round's tasks waits. None
+/// tells nothing.
+pub fn most_by_depths(
+    alloc: Global,
+    root: &PlacedBody,
+    cells: u32,
+    strict: bool,
+) -> Result<Option<Most>, Oom>
+    requires root { IsFresh placed_places placed_awaits placed_left 1 root.now }
+    requires cells { (0 < cells) × (cells ≤ MAX_CELLS) }
+
+    // What is found is the statement that made most of the first cells of that round, one more than
+    // `cells`, tasks taken in name order, and the first in the script of those that made as many.
+    ensures { IfOk result (λ found.
+        IfSome found (IsMostMade (logged_program strict root.now) cells)) }
+{
+    let noting = LoggedBody::of(alloc, root.twin(alloc)?)?;
+    let found = full_depth(alloc, &noting, cells, strict)?;
+    let Some(number) = found else {
+        return Ok(None);
+    };
+    let given = NameMap::new(alloc);
+    let makers = first_makers(alloc, &noting, cells, strict, number, &given)?;
     most_of(alloc, makers.as_slice())
 }
 
@@ -57,16 +90,17 @@ fn first_makers(
     root: &LoggedBody,
     cells: u32,
     strict: bool,
-    round: &FullRound,
+    number: u32,
+    given: &NameMap<Entry>,
 ) -> Result<Vec<Maker>, Oom>
     requires root { IsFresh logged_places logged_awaits logged_left 1 root.now }
     requires notes_nothing { root.now ≡ logged root.now.placed }
     requires round { let p = program_of logged_places logged_awaits logged_left logged_asks
-        logged_then strict root.now in (n : ℕ) × (round.now.number ≡ suc n)
-        × (assignment_in round.now.given ≡ rounds.given p n) }
+        logged_then strict root.now in
+        AreAsInRound p number (assignment_in given.now) }
     ensures { let p = program_of logged_places logged_awaits logged_left logged_asks
         logged_then strict root.now in IfOk result (λ makers.
-        makers.items ≡ take cells (round_makers p round.now.number)) }
+        makers.items ≡ take cells (round_makers p number)) }
 {
     let mut makers = Vec::new(alloc);
     let mut pending = Vec::new(alloc);
@@ -74,8 +108,8 @@ fn first_makers(
     take_up(
         alloc,
         first,
-        round.number,
-        &round.given,
+        number,
+        given,
         strict,
         &mut pending,
         &mut makers,
@@ -85,15 +119,7 @@ fn first_makers(
             break;
         }
         makers.push(maker)?;
-        take_up(
-            alloc,
-            task,
-            depth,
-            &round.given,
-            strict,
-            &mut pending,
-            &mut makers,
-        )?;
+        take_up(alloc, task, depth, given, strict, &mut pending, &mut makers)?;
     }
     makers.truncate(cells as usize);
     Ok(makers)
@@ -113,9 +139,9 @@ fn take_up<'s>(
     requires proper { IsProper (rules_of logged_places logged_awaits logged_left logged_asks
         logged_then strict) task }
     requires notes_nothing { task.body ≡ logged task.body.placed }
-    ensures { IfOk result (λ _. IsTaken (rules_of logged_places logged_awaits logged_left logged_asks
-        logged_then strict) (assignment_in given.now) task.entry depth pending.old.items
-        pending.new.items makers.old.items makers.new.items) }
+    ensures { let rules = rules_of logged_places logged_awaits logged_left logged_asks logged_then
+        strict in IfOk result (λ _. IsTaken (history.history rules (assignment_in given.now)
+        task.entry) depth pending.old.items pending.new.items makers.old.items makers.new.items) }
 {
     let (noted, children) = parts(history(alloc, task, given, strict)?);
     follow(alloc, noted, children, depth, pending, makers)

@@ -19,5 +19,10 @@ mod found;
 mod full;
 mod most;
 
-pub use full::most_made;
+pub use full::{most_by_depths, most_made};
 pub use most::Most;
+
+mod depths;
+mod ended;
+
+pub use ended::outcome_of_lines;

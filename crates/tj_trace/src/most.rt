@@ -1,10 +1,11 @@
 //! Which statement stands most often among what made cells.
 ghost use Rattle.std.specs.Prelude.{◌≡◌, ◌⊎◌, ◌<◌, ◌≤◌, [], IfNone, IfOk, IfSome, IsTrue, IsFalse};
-ghost use Rattle.std.specs.List.{list_any};
+ghost use Rattle.tj_trace.specs.Inner.StatementCounts.{AreCounts, count_in};
 ghost use Rattle.tj_trace.specs.MostOf as spec;
 
 use crate::line::Maker;
 use std::alloc::Global;
+use std::collections::BTreeMap;
 use tj_base::Oom;
 
 /// A statement, and how many cells it made.
@@ -14,23 +15,18 @@ pub struct Most {
     pub count: usize,
 }
 
-/// The statement that stands most often among these, and first in the script of those that do. Each
-/// statement is counted once.
+/// The statement that stands most often among these, and first in the script of those that do.
 pub fn most_of(alloc: Global, makers: &[Maker]) -> Result<Option<Most>, Oom>
     ensures some { IfOk result (λ found. IfSome found (spec.IsMostOf makers.now)) }
     ensures none { IfOk result (λ found. IfNone found (makers.now ≡ [])) }
 {
+    let counts = counts_of(alloc, makers)?;
     let Some(first) = makers.first() else {
         return Ok(None);
     };
-    let mut most = counted(makers, *first);
-    let mut seen = Vec::new(alloc);
+    let mut most = counted(&counts, *first);
     for maker in makers {
-        if stands_among(*maker, seen.as_slice()) {
-            continue;
-        }
-        seen.push(*maker)?;
-        let next = counted(makers, *maker);
+        let next = counted(&counts, *maker);
         if is_ahead(next, most) {
             most = next;
         }
@@ -38,21 +34,36 @@ pub fn most_of(alloc: Global, makers: &[Maker]) -> Result<Option<Most>, Oom>
     Ok(Some(most))
 }
 
-/// The statement, with how often it stands among these.
-fn counted(makers: &[Maker], maker: Maker) -> Most
-    ensures { result ≡ record { maker = maker; count = spec.made_count maker makers.now } }
+/// How often each statement stands among these, by its declaration and its number there.
+fn counts_of(alloc: Global, makers: &[Maker]) -> Result<BTreeMap<(usize, usize), usize>, Oom>
+    ensures { IfOk result (AreCounts makers.now) }
+{
+    let mut counts = BTreeMap::new(alloc);
+    for maker in makers {
+        let before = count_of(&counts, *maker);
+        counts.insert((maker.decl, maker.at), before + 1)?;
+    }
+    Ok(counts)
+}
+
+/// The statement, with how often it stands among those that were counted.
+fn counted(counts: &BTreeMap<(usize, usize), usize>, maker: Maker) -> Most
+    ensures { result ≡ record { maker = maker; count = count_in counts.now maker } }
 {
     Most {
         maker,
-        count: count_of(makers, maker),
+        count: count_of(counts, maker),
     }
 }
 
-/// Whether the statement is one of these.
-fn stands_among(maker: Maker, makers: &[Maker]) -> bool
-    ensures { result ≡ list_any (λ k. spec.same_statement maker k) makers.now }
+/// How often the statement stands among those that were counted.
+fn count_of(counts: &BTreeMap<(usize, usize), usize>, maker: Maker) -> usize
+    ensures { result ≡ count_in counts.now maker }
 {
-    makers.iter().any(|other| is_same(maker, *other))
+    match counts.get(&(maker.decl, maker.at)) {
+        Some(count) => *count,
+        None => 0,
+    }
 }
 
 /// Whether the first made more, or as many and stands earlier in the script.
@@ -69,21 +80,4 @@ fn is_ahead(next: Most, most: Most) -> bool
         return next.maker.decl < most.maker.decl;
     }
     next.maker.at < most.maker.at
-}
-
-/// How often the statement stands among these.
-fn count_of(makers: &[Maker], maker: Maker) -> usize
-    ensures { result ≡ spec.made_count maker makers.now }
-{
-    makers
-        .iter()
-        .filter(|other| is_same(maker, **other))
-        .count()
-}
-
-/// Whether they are one statement.
-fn is_same(maker: Maker, other: Maker) -> bool
-    ensures { result ≡ spec.same_statement maker other }
-{
-    maker.decl == other.decl && maker.at == other.at
 }

@@ -6,6 +6,7 @@ use Rattle.tj_body.specs.History.{Assignment, history}
 use Rattle.tj_body.specs.Points.{IsIn}
 use Rattle.tj_body.specs.Programs.{Program, Rules, root_task}
 use Rattle.tj_body.specs.Rounds.{given}
+use Rattle.tj_body.specs.declared.point.Point.{Point}
 use Rattle.tj_body.specs.declared.point.Task.{Task}
 use Rattle.tj_trace.specs.NoteLaws.{is_sort}
 use Rattle.tj_trace.specs.declared.found.Found.{Found}
@@ -45,16 +46,13 @@ module _ (rules : Rules Logged) (V : Assignment) where
   made_below (suc d) t =
       made_by sort.Promise t ++ with_below (made_below d) (made_by sort.Task t) (history rules V t).children
 
--- a task was taken from which d forks after one another are followed: what made its promises is noted, and its children
--- are to be taken next
-pub record IsTaken (rules : Rules Logged) (V : Assignment) (t : Task Logged) (d : ℕ) (ws pending : List (Found Logged))
-    (ms makers : List Maker) : Type 0 where
-  pub made : makers ≡ ms ++ made_by rules V sort.Promise t
-  pub still : still_makers (made_below rules V) pending
-      ≡ forked_makers (made_below rules V) d (made_by rules V sort.Task t) (history rules V t).children
-      ++ still_makers (made_below rules V) ws
-  pub from : (w : Found Logged) → IsIn w pending
-      → IsIn w ws ⊎ ((suc w.depth ≡ d) × IsIn w.task (history rules V t).children)
+-- a task with this history was taken, from which d forks after one another are followed: what made its promises is
+-- noted, and its children are to be taken next
+pub record IsTaken (p : Point Logged) (d : ℕ) (ws pending : List (Found Logged)) (ms makers : List Maker) : Type 0 where
+  pub made : makers ≡ ms ++ filter (is_of sort.Promise) p.body.makers
+  pub still : (below : ℕ → Task Logged → List Maker) → still_makers below pending
+      ≡ forked_makers below d (filter (is_of sort.Task) p.body.makers) p.children ++ still_makers below ws
+  pub from : (w : Found Logged) → IsIn w pending → IsIn w ws ⊎ ((suc w.depth ≡ d) × IsIn w.task p.children)
 
 -- what made the cells of round n but the root's result
 abbrev pub round_makers : Program Logged → ℕ → List Maker

@@ -1,32 +1,26 @@
-use Rattle.std.proofs.Common.{subst}
-use Rattle.std.proofs.Crossing.{crosses}
-use denote.Param.Send.{sendable}
-use Rattle.tj_body.specs.Rounds.{IsFull, meaning}
-use Rattle.tj_mean.specs.Outcomes.{IsOutcome}
-use Rattle.tj_syntax.proofs.Sends.{expr_sync, script_sync, stmt_sync}
+use Rattle.std.proofs.Common.{subst, sym}
 use Rattle.tj_syntax.specs.View as view
-use Rattle.tj_trace.specs.TraceLaws.{script_program}
-use Rattle.tj_explain.proofs.ToldInputs.{one_body}
+use Rattle.tj_trace.specs.Logs.{logged_program}
+use Rattle.tj_trace.specs.Traces.{AreTraced}
+use Rattle.tj_trace.proofs.Seen.{is_full_alike}
+use Rattle.tj_explain.proofs.ToldInputs.{root_told}
 use Rattle.tj_explain.proofs.told.told_script.Goals as goal
 
--- a body of a script may cross threads
-pub plan-requires-send-B : goal.plan-requires-send-B
-plan-requires-send-B c κs = search (sendable, crosses, expr_sync, stmt_sync, script_sync) depth 40
-
-pub told_outcome-requires-clause-outcome : goal.told_outcome-requires-clause-outcome
-told_outcome-requires-clause-outcome c =
+pub told_lines-requires : goal.told_lines-requires
+told_lines-requires c =
     let limits = c.args.command.limits in
-    let root = c.in_ok-root.root in
-    let same = one_body (view.script c.args.script.now) limits.steps c.in_ok-main_body.field-0 root.task
-    c.in_ok-main_body.ensures.main c.in_ok-root.ensures.main.0 in
-    subst (λ b. IsOutcome (meaning (script_program limits.strict (record { task = b; stand = root.stand }))
-    limits.cells) c.in-Ok.outcome) same c.in-Ok.ensures.outcome
+    let program = logged_program limits.strict c.in_ok-root.root in
+    (program, limits.cells, subst (AreTraced program limits.cells) (sym c.items.ensures) c.in-Ok.ensures.traced)
+
+pub returns-in-Ok : goal.returns-in-Ok
+returns-in-Ok c =
+    let limits = c.args.command.limits in
+    let program = logged_program limits.strict c.in_ok-root.root in
+    root_told c.args.command c.args.text.now (view.script c.args.script.now) c.args.tokens.now c.in_ok-root.root
+    c.items.result.now c.told_lines.result c.in_ok-root.ensures.main c.in-Ok.ensures.fits
+    (subst (AreTraced program limits.cells) (sym c.items.ensures) c.in-Ok.ensures.traced) c.told_lines.ensures
 
 pub told_full-requires-clause-full : goal.told_full-requires-clause-full
 told_full-requires-clause-full c =
     let limits = c.args.command.limits in
-    let root = c.in_ok-root.root in
-    let same = one_body (view.script c.args.script.now) limits.steps c.in_ok-main_body.field-0 root.task
-    c.in_ok-main_body.ensures.main c.in_ok-root.ensures.main.0 in
-    subst (λ b. IsFull (script_program limits.strict (record { task = b; stand = root.stand })) limits.cells) same
-    (c.in-Err-Full.ensures.full c.in-Err-Full.field-0-is)
+    (is_full_alike limits.strict c.in_ok-root.root limits.cells).0 (c.in-Err-Full.ensures.full c.in-Err-Full.field-0-is)

@@ -29,8 +29,8 @@ take_up-requires-clause-notes_nothing c =
 
 pub loop-task-init : goal.loop-task-init
 loop-task-init c =
-    begins_found (noted_program c.args.strict c.args.root.now) c.args.round.now.number
-    (assignment_in c.args.round.now.given) c.requires.round c.in_ok-first.first c.in_ok-first.ensures
+    begins_found (noted_program c.args.strict c.args.root.now) c.args.number
+    (assignment_in c.args.given.now) c.requires.round c.in_ok-first.first c.in_ok-first.ensures
     c.new-pending.result.items c.new-pending.ensures.items c.new-makers.result.items c.new-makers.ensures.items
     c.take_up.new.pending.items c.take_up.new.makers.items c.in_ok-take_up.ensures
 
@@ -39,26 +39,26 @@ pub take_up-requires-in-Some-clause-proper : goal.take_up-requires-in-Some-claus
 take_up-requires-in-Some-clause-proper c =
     let w = c.in-Some.field-0 in
     round_proper c.args.strict c.args.root.now c.requires.root c.requires.notes_nothing
-    (c.args.round.now.number - 1) w.task
-    (next_found (noted_program c.args.strict c.args.root.now) c.args.round.now.number
-    (assignment_in c.args.round.now.given) c.requires.round c.loop-task.pending.items c.loop-task.makers.items
+    (c.args.number - 1) w.task
+    (next_found (noted_program c.args.strict c.args.root.now) c.args.number
+    (assignment_in c.args.given.now) c.requires.round c.loop-task.pending.items c.loop-task.makers.items
     c.loop-task.invariant c.pop.new.self.items w c.in-Some.ensures.items)
 
 pub take_up-requires-in-Some-clause-notes_nothing : goal.take_up-requires-in-Some-clause-notes_nothing
 take_up-requires-in-Some-clause-notes_nothing c =
     let w = c.in-Some.field-0 in
     round_fresh c.args.strict c.args.root.now c.requires.root c.requires.notes_nothing
-    (c.args.round.now.number - 1) w.task
-    (next_found (noted_program c.args.strict c.args.root.now) c.args.round.now.number
-    (assignment_in c.args.round.now.given) c.requires.round c.loop-task.pending.items c.loop-task.makers.items
+    (c.args.number - 1) w.task
+    (next_found (noted_program c.args.strict c.args.root.now) c.args.number
+    (assignment_in c.args.given.now) c.requires.round c.loop-task.pending.items c.loop-task.makers.items
     c.loop-task.invariant c.pop.new.self.items w c.in-Some.ensures.items)
 
 pub loop-task-smaller : goal.loop-task-smaller
 loop-task-smaller c =
     let few = c.if-len-cells.false in
     let size = c.len.ensures ∙ c.loop-task.makers.ok.0 in
-    let more = grows_found (noted_program c.args.strict c.args.root.now) c.args.round.now.number
-    (assignment_in c.args.round.now.given) c.requires.round c.loop-task.pending.items c.loop-task.makers.items
+    let more = grows_found (noted_program c.args.strict c.args.root.now) c.args.number
+    (assignment_in c.args.given.now) c.requires.round c.loop-task.pending.items c.loop-task.makers.items
     c.loop-task.invariant c.pop.new.self.items c.in-Some.field-0 c.in-Some.ensures.items c.push.new.self.items
     c.in_ok-push.ensures.items c.take_up-in-Some.new.pending.items c.take_up-in-Some.new.makers.items
     c.in_ok-take_up-2.ensures in
@@ -66,8 +66,8 @@ loop-task-smaller c =
 
 pub loop-task-preserved : goal.loop-task-preserved
 loop-task-preserved c =
-    takes_found (noted_program c.args.strict c.args.root.now) c.args.round.now.number
-    (assignment_in c.args.round.now.given) c.requires.round c.loop-task.pending.items c.loop-task.makers.items
+    takes_found (noted_program c.args.strict c.args.root.now) c.args.number
+    (assignment_in c.args.given.now) c.requires.round c.loop-task.pending.items c.loop-task.makers.items
     c.loop-task.invariant c.pop.new.self.items c.in-Some.field-0 c.in-Some.ensures.items c.push.new.self.items
     c.in_ok-push.ensures.items c.take_up-in-Some.new.pending.items c.take_up-in-Some.new.makers.items
     c.in_ok-take_up-2.ensures
@@ -80,10 +80,10 @@ returns c =
     let long = l.pending.ok.0 in
     elim c.match-pop.branch [
       | in-Some+then-len-cells w ↦ let many = w.if-len-cells.true in let e = w.len.ensures in
-          c.truncate.ensures.items ∙ enough_found p c.args.round.now.number (assignment_in c.args.round.now.given)
+          c.truncate.ensures.items ∙ enough_found p c.args.number (assignment_in c.args.given.now)
           c.requires.round l.pending.items l.makers.items l.invariant c.args.cells (omega arith)
       | in_default w ↦ let none = w.in_default.ensures.cases.0 in
-          c.truncate.ensures.items ∙ all_found p c.args.round.now.number (assignment_in c.args.round.now.given)
+          c.truncate.ensures.items ∙ all_found p c.args.number (assignment_in c.args.given.now)
           c.requires.round l.pending.items l.makers.items l.invariant c.args.cells
           (nil_from_length l.pending.items (omega arith))
     ]

@@ -10,6 +10,7 @@ use Rattle.tj_syntax.proofs.Sends.{expr_sync, stmt_sync, script_sync}
 use Rattle.tj_trace.specs.Logs.{logged, logged_program}
 use Rattle.tj_trace.specs.MostMade.{IsMostMade}
 use Rattle.tj_trace.specs.MostOf.{IsMostOf}
+use Rattle.tj_trace.proofs.DepthRounds.{as_in_round}
 use Rattle.tj_trace.proofs.MostTold.{most_told, noted_program, notes_nothing, noting_fresh, of_root, some_told}
 use Rattle.tj_trace.proofs.Sends.{size_sync, sizes_sync}
 use Rattle.tj_trace.proofs.full.most_made.Goals as goal
@@ -45,8 +46,9 @@ first_makers-requires-clause-notes_nothing c =
 pub first_makers-requires-clause-round : goal.first_makers-requires-clause-round
 first_makers-requires-clause-round c =
     let p = noted_program c.args.strict c.in_ok-noting.noting in
-    subst (λ o. IfSome o (λ r. (n : ℕ) × (r.number ≡ suc n) × (assignment_in r.given ≡ given p n))) c.in-Some.is
-    c.in_ok-found.ensures.entries
+    as_in_round p c.in-Some.round.number (assignment_in c.in-Some.round.given)
+    (subst (λ o. IfSome o (λ r. (n : ℕ) × (r.number ≡ suc n) × (assignment_in r.given ≡ given p n))) c.in-Some.is
+    c.in_ok-found.ensures.entries)
 
 pub returns-clause-some : goal.returns-clause-some
 returns-clause-some c =

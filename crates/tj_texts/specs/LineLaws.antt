@@ -1,0 +1,117 @@
+-- The law of texts: findings that are told together have lines of their own, in the forest's order.
+use Rattle.std.specs.Prelude.{◌≡◌, ℕ, zero, suc, ◌+◌, ◌-◌, Bool, true, ◌||◌, nat_le, cond, List, [], ◌∷◌, ◌++◌, codes}
+use Rattle.std.specs.Prelude.{drop, length, map, slice_get, take, Option, Some, None}
+use Rattle.std.specs.List.{flat_map}
+use Rattle.tj_base.specs.ForkOrder.{Name}
+use Rattle.tj_base.specs.Texts.{name_text}
+use Rattle.tj_body.specs.Points.{IsIn}
+use Rattle.tj_lex.specs.declared.place.Place.{Place}
+use Rattle.tj_faults.specs.Carets.{line_in}
+use Rattle.tj_findings.specs.Forests.{Forest}
+use Rattle.tj_findings.specs.Groups.{Group, groups, leaf_groups}
+use Rattle.tj_findings.specs.LinesTold.{AreLines, HasPlainNames, IsPlain, StandsIn, with_levels}
+use Rattle.tj_findings.specs.Scenes.{Told, told_spot}
+use Rattle.tj_findings.specs.declared.finding.Finding.{Finding}
+use Rattle.tj_findings.specs.declared.finding.Finding.TheVariants as finding
+use Rattle.tj_findings.specs.declared.finding.ToldTask.{ToldTask}
+use Rattle.tj_findings.specs.declared.finding.Wait.{Wait}
+use Rattle.tj_texts.specs.WhyTexts.{forest_text, members_text}
+
+-- the findings of a group with their level, and behind them those of the groups of what follows from them
+abbrev pub group_with_levels : Bool → Group → List (ℕ × List Finding)
+group_with_levels all g = (0, g.members) ∷ map (λ h. (1, h.members)) (leaf_groups all g.below)
+
+-- the findings of a forest that are told together, with their levels, in the order in which they are told
+abbrev pub told_together : Bool → Forest → List (ℕ × List Finding)
+told_together all f = flat_map (group_with_levels all) (groups all f.trees) ++ map (λ g. (0, g ∷ [])) f.strays
+
+-- a finding by itself, with its level
+abbrev pub by_itself : ℕ × Finding → ℕ × List Finding
+by_itself g = (g.0, g.1 ∷ [])
+
+-- what stands in front of the first line of what has this level
+abbrev pub indent : ℕ → List ℕ
+indent zero = []
+indent (suc n) = codes "  "
+
+-- what is told of findings that are told together
+abbrev pub together_text : Told → Bool → ℕ × List Finding → List ℕ
+together_text s all g = indent g.0 ++ members_text s all g.1
+
+-- the text of a forest tells its findings, those that are told together at once, one after the other
+abbrev pub TellEach : Told → Type 0
+TellEach s = (all : Bool) (f : Forest) → forest_text s all f ≡ flat_map (together_text s all) (told_together all f)
+
+-- where all is told, each finding is told by itself
+abbrev pub AllTellEach : Type 0
+AllTellEach = (f : Forest) → told_together true f ≡ map by_itself (with_levels f)
+
+-- there are findings among those that are told together
+abbrev pub NoneTellNothing : Type 0
+NoneTellNothing = (all : Bool) (f : Forest) (g : ℕ × List Finding) → IsIn g (told_together all f) → g.1 ≡ [] → ⊥
+
+-- a source line and a caret, where there is a position
+abbrev pub lines_at : Option Place → ℕ
+lines_at None = 0
+lines_at (Some p) = 2
+
+-- how many lines tell the source line where a task stopped, if such lines are told
+abbrev pub source_lines : Told → ToldTask → ℕ
+source_lines s t = cond s.short 0 (lines_at (told_spot (slice_get s.places t.decl) t.at))
+
+-- how many lines tell members of a cycle: one each, and their source lines
+abbrev pub member_lines : Told → List Wait → ℕ
+member_lines s [] = 0
+member_lines s (w ∷ ws) = 1 + source_lines s w.task + member_lines s ws
+
+-- the same of the members at the two ends of a long cycle, and a line between them
+abbrev pub end_lines : Told → List Wait → ℕ
+end_lines s ws = member_lines s (take 10 ws) + 1 + member_lines s (drop (length ws - 10) ws)
+
+-- how many lines tell findings that are alike, of which this is the first: one, below that of a failure the source
+-- line, and below that of a cycle its members, of a long one those at its two ends
+abbrev pub lines_of : Told → Bool → Finding → ℕ
+lines_of s all (finding.Cycle ws) =
+    1 + cond (all || nat_le (length ws) 20) (member_lines s ws) (end_lines s ws)
+lines_of s all (finding.Behind w) = 1
+lines_of s all (finding.Failed t c m) = 1 + source_lines s t
+lines_of s all (finding.Owed q t) = 1
+lines_of s all (finding.Echo t q o) = 1
+
+-- no source line has a line feed
+abbrev pub HasPlainLines : Told → Type 0
+HasPlainLines s = (n : ℕ) → IsPlain (line_in s.lines n)
+
+-- findings that are told together have so many lines
+abbrev pub HaveLines : Told → Type 0
+HaveLines s = (all : Bool) (g : Finding) (gs : List Finding)
+    → AreLines (lines_of s all g) (members_text s all (g ∷ gs))
+
+-- the members of a cycle that are told: where not all are, of more than 20 the first ten and the last ten
+abbrev pub told_members : Bool → List Wait → List Wait
+told_members all ws = cond (all || nat_le (length ws) 20) ws (take 10 ws ++ drop (length ws - 10) ws)
+
+-- the names that the lines have of the first of findings that are alike: of its task, of a cycle of the members that
+-- are told, or of a promise that was owed
+abbrev pub names_told : Bool → Finding → List Name
+names_told all (finding.Cycle ws) = map (λ w. w.task.name) (told_members all ws)
+names_told all (finding.Behind w) = w.task.name ∷ []
+names_told all (finding.Failed t c m) = t.name ∷ []
+names_told all (finding.Owed q t) = q.name ∷ []
+names_told all (finding.Echo t q o) = t.name ∷ []
+
+-- these stand in the text one behind the other, in this order
+abbrev pub StandInOrder : List (List ℕ) → List ℕ → Type 0
+StandInOrder [] text = Unit {0}
+StandInOrder (p ∷ ps) text = (i : StandsIn p text) × StandInOrder ps i.behind
+
+-- what is told of findings that are told together has the names of the first, in this order
+abbrev pub HaveNames : Told → Type 0
+HaveNames s = (all : Bool) (g : Finding) (gs : List Finding)
+    → StandInOrder (map name_text (names_told all g)) (members_text s all (g ∷ gs))
+
+-- a text tells the findings of a forest, those that are told together by lines of their own
+abbrev pub TextsTellEach : Type 0
+TextsTellEach =
+    ((s : Told) → TellEach s × (HasPlainNames s → HasPlainLines s → HaveLines s) × HaveNames s)
+    × AllTellEach × NoneTellNothing

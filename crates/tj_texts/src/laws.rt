@@ -1,0 +1,24 @@
+//! Laws of texts. They speak of the definitions alone.
+ghost use Rattle.tj_texts.specs.GroupLaws.{GroupsSaySame};
+ghost use Rattle.tj_texts.specs.LineLaws.{TextsTellEach};
+
+/// Findings that are told together have lines of their own.
+pub fn texts_tell_each_finding()
+    // Law: the text of a forest tells its findings, one behind the other: causes, and one level below each
+    // what follows from it. With `--all` each is told by itself, and else those of a group together, of
+    // which there is one or more. Their lines are made of these findings alone. If no name and no source
+    // line has a line feed, these are one line; of failures two more, if a source line is told, and the task
+    // stopped at a position; of cycles one more for each member that is told, with two more as of failures,
+    // and one where members are left out. Unless all is told, of more than 20 members the first ten and the
+    // last ten are. The lines have the name of the first finding's task, of the promise that was owed, or of
+    // the members of the first cycle that are told, in their order.
+    ensures { TextsTellEach }
+{}
+
+/// Findings of one group say the same, and those of one cause that say the same are in one group.
+pub fn groups_say_the_same()
+    // Law: findings of one group are of one kind. Promises that are owed were made by one statement; of
+    // others the tasks stopped at one statement, of cycles one by one, and failures have one word for
+    // their cause. Findings of two groups never say the same, of causes and of what follows from one cause.
+    ensures { GroupsSaySame }
+{}
