@@ -34,7 +34,7 @@ module _ {B : Type 0} (rules : Rules B) where
       ∙ length-append (flat_map cells_of xs) (flat_map cells_of ys)
 
   -- what a task and others make
-  made_first : (t : Task B) (ts : List (Task B)) → made_of rules (t ∷ ts) ≡ length (cells_of t) + made_of rules ts
+  pub made_first : (t : Task B) (ts : List (Task B)) → made_of rules (t ∷ ts) ≡ length (cells_of t) + made_of rules ts
   made_first t ts = length-append (cells_of t) (flat_map cells_of ts)
 
   -- the tasks that come from these by d forks after one another

@@ -1,6 +1,6 @@
 -- Rounds whose tasks all end without an entry.
 use Rattle.std.proofs.Common.{◌≡◌, ℕ, zero, suc, ◌+◌, ◌-◌, ◌*◌, ◌<◌, ◌≤◌, ◌⊎◌, inl, inr, List, [], ◌∷◌, ◌++◌, length}
-use Rattle.std.proofs.Common.{refl, sym, ap, ◌∙◌, subst, arith}
+use Rattle.std.proofs.Common.{refl, sym, ap, ◌∙◌, subst, arith, append-nil}
 use Rattle.std.specs.List.{flat_map}
 use Rattle.tj_base.specs.ForkOrder.{Name}
 use Rattle.tj_body.specs.History.{Assignment, history}
@@ -14,7 +14,7 @@ use Rattle.tj_body.proofs.Histories.Grows.{ended_same}
 use Rattle.tj_body.proofs.Lists.{from_flat_map, in_flat_map}
 use Rattle.tj_mean.specs.FirstFull.{IsFirstFull}
 use Rattle.tj_trace.specs.Inner.TaskDepths.{AreAsInRound, IsDepthTaken, IsFullDepth, below, made_of, nothing}
-use Rattle.tj_trace.proofs.DepthLists.{depth, family_in, family_made, made_above, made_more}
+use Rattle.tj_trace.proofs.DepthLists.{depth, family_in, family_made, made_above, made_first, made_more}
 
 -- what two functions make of a list on which they agree
 flat_map_same : {A C : Type 0} (f g : A → List C) (xs : List A) → ((x : A) → IsIn x xs → f x ≡ g x)
@@ -201,6 +201,39 @@ module _ {B : Type 0} (program : Program B) where
           none_before (suc m) l = absurd (omega arith)
 
 module _ {B : Type 0} (program : Program B) where
+  -- each task makes a cell or more
+  as_many : (ts : List (Task B)) → length ts ≤ made_of program.rules ts
+  as_many [] = omega arith
+  as_many (t ∷ ts) =
+      let a = as_many ts in
+      let b = made_first program.rules t ts in
+      omega arith
+
+  -- where the root forks more tasks than the limit, the first round is full
+  pub full_of_children : (N : ℕ)
+      → N < length (history program.rules nothing (root_task program.root)).children → IsFullDepth program N 1
+  full_of_children N many =
+      let cs = (history program.rules nothing (root_task program.root)).children in
+      record {
+        first = record {
+          full = let a = family_made program.rules 1 (root_task program.root) in
+              let b = as_many (depth program.rules (root_task program.root ∷ []) 1) in
+              let c = ap (λ (l : List (Task B)). length l) (append-nil cs) in omega arith;
+          first = none_before;
+        };
+        entries = record { before = 0; number_is = refl; alike = λ t i. refl };
+      }
+    where
+      none_before : (m : ℕ) → m < 1 → length (cells program m) ≤ N
+      none_before zero l = omega arith
+      none_before (suc m) l = absurd (omega arith)
+
+  -- so it is where the root's history has them, under a map without entries
+  pub full_by_children : (N : ℕ) (p : Point B) (V : Assignment) → V ≡ nothing
+      → p ≡ history program.rules V (root_task program.root) → N < length p.children → IsFullDepth program N 1
+  full_by_children N p V none is many = full_of_children N (subst (λ (q : Point B). N < length q.children)
+      (is ∙ ap (λ W. history program.rules W (root_task program.root)) none) many)
+
   -- under the entries of the round before each task does what it does in the round
   pub as_in_round : (number : ℕ) (V : Assignment) → (n : ℕ) × (number ≡ suc n) × (V ≡ given program n)
       → AreAsInRound program number V

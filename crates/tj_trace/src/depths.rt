@@ -1,7 +1,7 @@
 //! The first round that has more cells than a limit, where no task of it waits. Then each task does
 //! the same in each round, and the tasks are gone through depth by depth: no more of them are kept
 //! than are of one depth.
-ghost use Rattle.std.specs.Prelude.{◌≡◌, ◌<◌, ◌≤◌, length, IfOk, IfSome};
+ghost use Rattle.std.specs.Prelude.{◌≡◌, ◌<◌, ◌≤◌, length, IfOk, IfSome, IsTrue};
 ghost use Rattle.tj_base.specs.declared.cell.TheConstants.{MAX_CELLS};
 ghost use Rattle.tj_body.specs.Asks.{IsFresh};
 ghost use Rattle.tj_body.specs.Points.{HasEnded, IsIn, IsProper};
@@ -15,7 +15,8 @@ use tj_body::{Body, Point, PointStage, Task};
 use tj_mean::{NameMap, history, root_task};
 
 /// The number of the first round that has more than `cells` cells, where it is seen without an
-/// entry: none of its tasks waits, and no depth before it has more tasks than the limit.
+/// entry: none of its tasks waits, and no depth before it has more tasks than the limit, or the root
+/// alone forks more.
 pub fn full_depth<B: Body>(
     alloc: Global,
     root: &B,
@@ -27,6 +28,11 @@ pub fn full_depth<B: Body>(
     ensures { let p = program_of B.places B.awaits B.left B.asks B.then strict root.now in
         IfOk result (λ found. IfSome found (IsFullDepth p cells)) }
 {
+    let none = NameMap::new(alloc);
+    let first = history(alloc, root_task(alloc, root)?, &none, strict)?;
+    if has_many(first, cells) {
+        return Ok(Some(1));
+    }
     let mut tasks = Vec::new(alloc);
     tasks.push(root_task(alloc, root)?)?;
     let mut room = cells as usize + 1;
@@ -47,6 +53,15 @@ pub fn full_depth<B: Body>(
         depth += 1;
     }
     Ok(None)
+}
+
+/// Whether the task at this point has forked more tasks than so many.
+fn has_many<B: Body>(p: Point<B>, cells: u32) -> bool
+    ensures { IsTrue result → cells < length p.children }
+{
+    let many = p.children.items().len() > cells as usize;
+    drop(p);
+    many
 }
 
 /// What is below the tasks of a depth.

@@ -1,10 +1,14 @@
-use Rattle.std.proofs.Common.{◌≡◌, ◌∙◌, ◌+◌, suc, Bool, subst, arith}
+use Rattle.std.proofs.Common.{◌≡◌, ◌∙◌, ◌+◌, suc, Bool, ap, refl, subst, arith}
 use Rattle.std.specs.Prelude.{IfSome}
 use Rattle.tj_body.specs.Points.{IsIn}
+use Rattle.tj_body.specs.History.{history}
 use Rattle.tj_body.specs.Programs.{AreLawful, Program, program_of}
+use Rattle.tj_mean.specs.Inner.Assignments.{assignment_in}
 use Rattle.tj_body.proofs.Proper.{root_proper}
 use Rattle.tj_trace.specs.Inner.TaskDepths.{IsDepthTaken}
-use Rattle.tj_trace.proofs.DepthRounds.{AreReached, depth_proper, full_at, less_room, next_reached}
+use Rattle.tj_trace.proofs.DepthRounds.{AreReached, depth_proper, full_at, full_at_root, full_by_children, less_room}
+use Rattle.tj_trace.proofs.DepthRounds.{next_reached}
+use Rattle.tj_trace.proofs.DepthTaken.{empty_map}
 use Rattle.tj_trace.proofs.depths.full_depth.Given.{Over}
 use Rattle.tj_trace.proofs.depths.full_depth.Goals as goal
 
@@ -22,6 +26,23 @@ take_depth-requires-clause-proper g c κs within =
     let p = program g c.args.strict c.args.root.now in
     λ t i. depth_proper p (lawful g c.args.strict c.args.root.now) (root_proper p c.requires.root) c.loop-alloc.depth t
     (subst (IsIn t) c.loop-alloc.invariant.tasks_are i)
+
+pub returns-then-has_many : goal.returns-then-has_many
+returns-then-has_many g c =
+    let p = program g c.args.strict c.args.root.now in
+    let none = assignment_in c.new-none.result in
+    full_by_children p c.args.cells c.in_ok-first.first none (empty_map c.new-none.result c.new-none.ensures)
+    (c.in_ok-first.ensures ∙ ap (λ t. history p.rules none t) c.in_ok-root_task.ensures) (c.if-has_many.ensures refl)
+
+pub returns-then-depth-eq0 : goal.returns-then-depth-eq0
+returns-then-depth-eq0 g c =
+    let p = program g c.args.strict c.args.root.now in
+    let l = c.loop-alloc in
+    let b = c.in-Some.below in
+    let taken = subst (λ o. IfSome o (λ b. IsDepthTaken p.rules l.tasks.items l.room b.room b.tasks.items)) c.in-Some.is
+    c.in_ok-found.ensures in
+    full_at_root p c.args.cells l.tasks.items l.room l.depth l.invariant b.room b.tasks.items taken c.if-below-eq0.true
+    c.if-depth-eq0.true
 
 pub returns-then-below-eq0 : goal.returns-then-below-eq0
 returns-then-below-eq0 g c =
