@@ -61,7 +61,7 @@ use Rattle.tj_forest.proofs.ToldOnce.{tells_each_once}
 use Rattle.tj_forest.proofs.ReasonsTold.{reasons_are_told}
 use Rattle.tj_forest.proofs.WentsRight.{promises_went_there}
 use Rattle.tj_forest.specs.CellsTold.{cells_named}
-use Rattle.tj_forest.specs.Consequences.{ConsequencesFollow}
+use Rattle.tj_forest.specs.Consequences.{ConsequencesFollow, IsInOrder}
 use Rattle.tj_forest.specs.Explanations.{OwedIt, StoppedSo, WaitsLeadToToldCycles}
 use Rattle.tj_findings.specs.Findings.{findings_of, maker_named, told_task}
 use Rattle.tj_findings.specs.Forests.{Forest, findings_in, forest_of}
@@ -279,7 +279,12 @@ module _ (leads : (strict : Bool) (root : PlacedState) → WaitsLeadToToldCycles
           forest = record { trees = []; strays = [] };
           explain = none_tells strict root cells o out (not_marked command.telling (is_marked o) plain) script
               (own_places input script is);
-          order = record { causes = λ t i. absurd i; follow = λ t i g j. absurd i; no_strays = refl };
+          order = record {
+            causes = λ t i. absurd i;
+            follow = λ t i g j. absurd i;
+            no_strays = refl;
+            turn = record { debts_last = λ x y p d. absurd p; refused_first = λ w t q m p n i. absurd p };
+          };
           fine = ((λ z. unmarked), (λ z. refl));
           told = refl;
         }
@@ -310,9 +315,10 @@ module _ (leads : (strict : Bool) (root : PlacedState) → WaitsLeadToToldCycles
           explain = explains_there (findings_of ls o.cycles) (findings_in (forest ps)) holds script
               (own_places input script is) strict root cells (lines_tell script is.tokens is.is_script
               command.limits.steps limits.few_steps root main strict cells limits.few_cells room ls traced o out);
-          order = follow strict root cells ps ls o limits.few_cells
+          order = subst (λ z. IsInOrder (meaning (script_program strict root) cells) z (forest ps)) here
+              (follow strict root cells ps ls o limits.few_cells
               (fresh_root script (kinds_of is.tokens) command.limits.steps root is.is_script limits.few_steps main)
-              room traced out;
+              room traced out);
           fine = ((λ z. sym mark ∙ found.0 z), (λ z. found.1 (mark ∙ z)));
           told = as_told (s ps) command.telling ls o tells
               ∙ all_told (s ps) command.telling (forest ps) (findings_in (forest ps)) (length ls) (is_marked o) found

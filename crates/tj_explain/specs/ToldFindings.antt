@@ -116,8 +116,9 @@ pub record IsExplained (command : WhyCommand) (input : List ℕ) (marked : Bool)
   pub forest : Forest
   pub explain : Explains script (own_places input script is) command.limits.strict root command.limits.cells
       (findings_in forest)
-  -- each consequence stands below the cause from which it follows
-  pub order : IsInOrder (meaning (script_program command.limits.strict root) command.limits.cells) forest
+  -- each consequence stands below the cause from which it follows, and the causes stand in order
+  pub order : IsInOrder (meaning (script_program command.limits.strict root) command.limits.cells)
+      (own_places input script is) forest
   pub fine : (findings_in forest ≡ []) ↔ (marked ≡ false)
   pub told : text ≡ findings_told (scene_of command input script (own_places input script is)) command.telling
       (length outcome.lines) forest (findings_in forest)

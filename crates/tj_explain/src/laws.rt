@@ -28,7 +28,9 @@ pub fn texts_tell_findings()
     // behind its second and what differs in it. Of what variables held as a task failed both tell the
     // reason; else objects leave nothing out. There are no findings exactly where the status says so.
     // What tj_forest's laws say of lists of findings holds of those of the forest, and each consequence
-    // stands below its cause. What made a cell is told with a failure only if its cause names one.
+    // stands below its cause. Among causes promises owed by ended tasks come last, and a set that was
+    // refused comes before each cycle in which a task waits for its cell. What made a cell is told with
+    // a failure only if its cause names one.
     ensures { TextsTellFindings }
 {
     waits_lead_to_told_cycles();

@@ -43,7 +43,7 @@ below_bare : (n : ℕ) (fs : List (ℕ × Finding)) → AreBelow n fs → AreBel
 below_bare n [] below = tt
 below_bare n (f ∷ fs) below = (below.0, below_bare n fs below.1)
 
-below_in : {A : Type 0} (n : ℕ) (xs : List (ℕ × A)) → AreBelow n xs → (x : ℕ × A) → IsIn x xs → x.0 < n
+pub below_in : {A : Type 0} (n : ℕ) (xs : List (ℕ × A)) → AreBelow n xs → (x : ℕ × A) → IsIn x xs → x.0 < n
 below_in n [] below x i = absurd i
 below_in n (y ∷ ys) below x (inl e) = subst (λ (z : ℕ × _). z.0 < n) (sym e) below.0
 below_in n (y ∷ ys) below x (inr i) = below_in n ys below.1 x i

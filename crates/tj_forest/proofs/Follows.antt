@@ -36,11 +36,13 @@ use Rattle.tj_forest.proofs.Claims.{Claims, kept, one_claims, result, waits_owe_
 use Rattle.tj_forest.proofs.CycleOwners.{members_told}
 use Rattle.tj_forest.proofs.ChainEnds.{origin_begins}
 use Rattle.tj_forest.proofs.FirstEchoes.{HasChain, echoes_none, has_chain}
+use Rattle.tj_forest.proofs.InTurn.{in_turn}
 use Rattle.tj_forest.proofs.LedOn.{IsLed, led_on}
 use Rattle.tj_forest.proofs.Origins.{Broke, IsFirst, by_debt, by_failure, came_from, origin_there, stopped_so}
 use Rattle.tj_forest.proofs.Roots.{IsCauseOf, a_cycle, a_debt, a_failure, bare_roots, cause_of, cycle_is_cause}
-use Rattle.tj_forest.proofs.Roots.{debt_is_cause, failure_is_cause, roots_are_causes}
+use Rattle.tj_forest.proofs.Roots.{debt_is_cause, failure_is_cause, roots_are_causes, roots_of}
 use Rattle.tj_forest.proofs.ToldOnce.{link_found, link_says, to_point}
+use Rattle.tj_forest.specs.CauseOrder.{AreInTurn}
 use Rattle.tj_forest.specs.Consequences.{CameAtFirstFrom, FailsAfter, FollowsFrom, IsInOrder, IsOriginOf}
 use Rattle.tj_findings.specs.Echoes.{breaker, echoed, echoed_by, origin}
 use Rattle.tj_forest.specs.Explanations.{OwedIt, members_of}
@@ -425,7 +427,7 @@ module _ (strict : Bool) (root : PlacedState) (N : ℕ) (places : List PlacesOfT
   bare_followed (f ∷ fs) = ((λ g i. absurd i), bare_followed fs)
 
   -- the forest is in order
-  pub in_order : IsInOrder ps (forest_of places lines o.cycles)
+  pub in_order : IsInOrder ps places (forest_of places lines o.cycles)
   in_order =
       let start : Forest = record { trees = map bare cs; strays = [] } in
       let h = all_below (FollowsFrom ps) cs (consequences lines o.cycles) start known_all
@@ -434,4 +436,5 @@ module _ (strict : Bool) (root : PlacedState) (N : ℕ) (places : List PlacesOfT
         causes = roots_are_causes places lines o.cycles;
         follow = λ t i g j. followed_in (FollowsFrom ps) (forest_of places lines o.cycles).trees h.followed t i g j;
         no_strays = h.no_strays;
+        turn = subst (AreInTurn places) (sym (roots_of places lines o.cycles)) (in_turn places lines o.cycles);
       }

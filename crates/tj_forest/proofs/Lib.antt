@@ -39,3 +39,5 @@ mod HandedTwice
 mod OwnersKept
 pub mod LetsTold
 mod PromisesKept
+mod RanksBefore
+mod InTurn

@@ -148,12 +148,17 @@ cause_is lines cycles f (a_cycle c i e) = subst IsCause (sym e) tt
 cause_is lines cycles f (a_failure l i c is none e) = subst IsCause (sym e) (λ q s. other_cause c q none s)
 cause_is lines cycles f (a_debt l i v is q j e) = subst IsCause (sym e) (ap stop_of is)
 
+-- the roots of the forest are the causes, in their order
+pub roots_of : (places : List PlacesOfTask) (lines : List TraceLine) (cycles : List (List Link))
+    → map (λ (t : Tree). t.root) (forest_of places lines cycles).trees ≡ causes places lines cycles
+roots_of places lines cycles =
+    let cs = causes places lines cycles in
+    all_roots cs (consequences lines cycles) (record { trees = map bare cs; strays = [] }) ∙ bare_roots cs
+
 -- each root of the forest is a cause
 pub roots_are_causes : (places : List PlacesOfTask) (lines : List TraceLine) (cycles : List (List Link)) (t : Tree)
     → IsIn t (forest_of places lines cycles).trees → IsCause t.root
 roots_are_causes places lines cycles t i =
-    let cs = causes places lines cycles in
-    let start : Forest = record { trees = map bare cs; strays = [] } in
     cause_is lines cycles t.root (cause_of lines cycles places t.root
-    (subst (IsIn t.root) (all_roots cs (consequences lines cycles) start ∙ bare_roots cs)
+    (subst (IsIn t.root) (roots_of places lines cycles)
     (root_in t (forest_of places lines cycles).trees i)))

@@ -1,5 +1,5 @@
 -- The laws of the forest: it holds each finding of the list once, and each consequence stands below its cause.
-use Rattle.std.specs.Prelude.{◌≡◌, ◌≤◌, ◌++◌, ℕ, Bool, List, [], Option, Some}
+use Rattle.std.specs.Prelude.{◌≡◌, ◌≤◌, ◌++◌, ℕ, Bool, List, [], map, Option, Some}
 use Rattle.std.specs.List.{flat_map}
 use Rattle.std.specs.List.Sorted.{IsPermutation}
 use Rattle.tj_base.specs.Cycles.{Reaches}
@@ -22,6 +22,7 @@ use Rattle.tj_trace.specs.Logs.{logged_program}
 use Rattle.tj_trace.specs.TraceLaws.{script_program}
 use Rattle.tj_trace.specs.Traces.{AreTraced}
 use Rattle.tj_trace.specs.declared.line.TraceLine.{TraceLine}
+use Rattle.tj_forest.specs.CauseOrder.{AreInTurn}
 use Rattle.tj_forest.specs.Explanations.{OwedIt, StoppedSo, members_of}
 use Rattle.tj_findings.specs.Findings.{findings_of}
 use Rattle.tj_findings.specs.Forests.{Forest, Tree, findings_in, findings_of_tree, forest_of}
@@ -88,11 +89,13 @@ module _ {B : Type 0} (ps : List (Point B)) where
   FollowsFrom root (finding.Owed q t) = (t.stop ≡ stop.Failed) × FailsAfter root t.name
   FollowsFrom root (finding.Echo t q o) = FailsAfter root t.name × IsOriginOf root o
 
-  -- each tree has a cause as root, and below it what follows from this; and there are no strays
-  pub record IsInOrder (f : Forest) : Type 0 where
+  -- each tree has a cause as root, and below it what follows from this; the causes stand in the order in which they
+  -- are told; and there are no strays
+  pub record IsInOrder (places : List PlacesOfTask) (f : Forest) : Type 0 where
     pub causes : (t : Tree) → IsIn t f.trees → IsCause t.root
     pub follow : (t : Tree) → IsIn t f.trees → (g : Finding) → IsIn g t.below → FollowsFrom t.root g
     pub no_strays : f.strays ≡ []
+    pub turn : AreInTurn places (map (λ (t : Tree). t.root) f.trees)
 
 -- so it is of the forest of each run that isn't full
 abbrev pub ConsequencesFollow : Bool → PlacedState → Type 0
@@ -100,4 +103,4 @@ ConsequencesFollow strict root = (N : ℕ) (places : List PlacesOfTask) (lines :
     → N ≤ MAX_CELLS → IsFresh script_places script_awaits script_left 1 root.task
     → ¬ IsFull (script_program strict root) N → AreTraced (logged_program strict root) N lines
     → IsOutcome (meaning (script_program strict root) N) o
-    → IsInOrder (meaning (script_program strict root) N) (forest_of places lines o.cycles)
+    → IsInOrder (meaning (script_program strict root) N) places (forest_of places lines o.cycles)

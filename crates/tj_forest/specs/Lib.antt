@@ -10,3 +10,4 @@ pub mod WentLaws
 pub mod ReasonsTold
 pub mod TwiceHanded
 pub mod LetLaws
+pub mod CauseOrder

@@ -112,7 +112,10 @@ pub fn consequences_follow()
     // Below a failure stand promises that the task owed as it failed, and echoes, with what their tasks
     // owed, from which steps back lead to this task. Below a promise stand echoes, with what their tasks
     // owed, from which steps back lead to a failure for this promise. The origin that an echo tells is the
-    // task which its cause tells: the one that failed, or that owed the promise.
+    // task which its cause tells: the one that failed, or that owed the promise. Among the causes only
+    // promises owed by ended tasks stand behind such a promise. No cycle stands before the failure of a
+    // task that had no right to a promise, at a statement without an ask, if a task of this cycle waits
+    // for this promise: so a set that was refused stands before each cycle that waits for it.
     ensures { (strict : Bool) (root : PlacedState) → ConsequencesFollow strict root }
 {
     waits_lead_to_a_cycle::<ScriptBody>();
@@ -136,8 +139,8 @@ pub fn promises_went_there()
 pub fn reasons_are_told()
     // Law: in a run from the body of `main` on of each task that is told to have failed by `arith`
     // or `kind` a reason is found, and it tells of this fault: by the statement where the task stopped
-    // and what its variables held, it is that of the statement's first part that fails or isn't what is
-    // wanted there. The statement and the values are those of the finding, and these are those of the
+    // and what its variables held, it is that of the statement's first part, as the language tests them,
+    // that fails or isn't what is wanted there. The statement and the values are those of the finding, and these are those of the
     // task's history, by the law `tasks_are_of_histories`.
     ensures { ReasonsAreTold }
 {}

@@ -1,5 +1,5 @@
 -- The law of told reasons: what is told is what fails first, by the values that the language gives to the parts of the
--- statement, from the left. It speaks of values alone, and not of how a reason is found.
+-- statement, in the order in which it tests them. It speaks of values alone, and not of how a reason is found.
 use Rattle.std.specs.Prelude.{◌≡◌, ◌⊎◌, ◌&&◌, ℕ, ℤ, ◌+ℤ◌, ◌-ℤ◌, ◌*ℤ◌, neg_ℤ, int_div, Bool, true, false, List, [], ◌∷◌}
 use Rattle.std.specs.Prelude.{map, Option, Some, None, Ok}
 use Rattle.tj_base.specs.ForkOrder.{Name}
@@ -156,7 +156,8 @@ module _ (x : Name) (references : List Reference) (vars : List Pay) where
   GivenFails (tree.answer q) r = AskFails q r
   GivenFails (tree.result_of e) r = FailsBy vars e r
 
-  -- the statement fails for this reason: of its parts the first one that isn't what the language wants there
+  -- the statement fails for this reason: of its parts the first one, as the language tests them, that isn't what is
+  -- wanted there
   abbrev pub StatementFails : Statement → Reason → Type 0
   StatementFails (tree.let_new y side) r = GivenFails side r
   StatementFails (tree.assign y side) r = GivenFails side r
