@@ -43,7 +43,7 @@ use Rattle.tj_words.specs.CallLaws.StepCalls as call
 use Rattle.tj_words.specs.Calls.ChainSteps.{HasPush, HasPushBehind, KnowsEntry, TakesChain, next_store, push_exchange}
 use Rattle.tj_words.specs.Calls.ChainSteps.{pushed, shut_swap, stored_next, took_chain}
 use Rattle.tj_words.specs.Calls.ExchangeViews.{MaySwap, phase_swap, woke_first}
-use Rattle.tj_words.specs.Calls.LiveViews.{MayRaiseLive, live_add, live_raised}
+use Rattle.tj_words.specs.Calls.LiveViews.{MayRaiseLive, homed, live_add, live_raised}
 use Rattle.tj_words.specs.Calls.MetCells.{phase_load}
 use Rattle.tj_words.specs.Calls.ParkSteps.{loaded_phase}
 use Rattle.tj_words.specs.Calls.PutRecords.{PutsHome}
@@ -400,7 +400,7 @@ module _ {B : Type 0} (program : Bool → B → Program B) (key : Key B) (some_c
       ∙ (walks13)
 
   abbrev m15 : SeatMe B
-  m15 = (parked 0 1 Other m14.0, [])
+  m15 = (homed put14.1 (parked 0 1 Other m14.0), [])
 
   -- the root is parked
   e15 : GoesTo program key u14 (phase_at 0) 29 m15

@@ -29,3 +29,4 @@ pub mod LoneHolders
 pub mod LoggedPhases
 pub mod FirstPromises
 pub mod FirstWakes
+pub mod NotedPuts

@@ -1,9 +1,10 @@
 -- What the log of a seat says of PHASE and of records, in the run that the table has: a store of a phase that is for
--- good stands, and an exchange by which a task runs took the record that was put home last.
+-- good stands, an exchange by which a task runs took the record that was put home last, and who put a record home has it
+-- in its view.
 use Rattle.std.specs.Prelude.{◌≡◌, ◌⊎◌, ℕ, ◌∷◌, Bool, List, Option, Some}
 use lib.ListN.{get_elem?}
 use mathlib.Core.Option.{some}
-use Rattle.atomic_table.specs.Table.{Act, State, takes}
+use Rattle.atomic_table.specs.Table.{Act, State, gives, takes}
 use Rattle.tj_body.specs.Points.{IsIn}
 use Rattle.tj_body.specs.Programs.{Program}
 use Rattle.tj_log.specs.Laws.{IsLastPut, StandsIn}
@@ -48,3 +49,15 @@ module _ (B : Type 0) where
       → StandsIn y (steps came x id (entry_of (call.swaps_phase t) n m n) slots act) s run.past
       → (r : Rec B) × (act ≡ takes t (Some r))
       × IsLastPut t (Some r) (first_slots key.cells key.root.value) came × NotesRecord id r x y
+
+  -- the step from x to y put this record in front of those that the view of the seat id says that its steps put home
+  abbrev pub NotesPut : ℕ → Rec B → State (Option (Rec B)) (View B) → State (Option (Rec B)) (View B) → Type 0
+  NotesPut id r x y = (v w : View B) × (get_elem? x.views id ≡ some v) × (get_elem? y.views id ≡ some w)
+      × (w.put_home ≡ r ∷ v.put_home)
+
+  -- a step of the run that gave a slot back with a record in it is noted so by its seat's view
+  abbrev pub PutsAreNoted : Type 0
+  PutsAreNoted = (program : Bool → B → Program B) (key : Key B) (s : State (Option (Rec B)) (View B))
+      (run : HasRun program key s) (x y : State (Option (Rec B)) (View B)) (came : Past (Option (Rec B)) (View B))
+      (id : ℕ) (e : Entry) (t : ℕ) (r : Rec B) (slots : List (ℕ × Option (Rec B)))
+      → StandsIn y (steps came x id e ((t, Some r) ∷ slots) gives) s run.past → NotesPut id r x y

@@ -160,6 +160,7 @@ module _ {B : Type 0} {program : Bool → B → Program B} {t : ℕ} {promises l
         };
         alarms = alarms_closed t c.0 entry.Broken w h.owns.custody h.owns.held h.alarms;
         within = λ x i. h.within x (inr i);
+        put_home = h.put_home;
         entries = λ d i. entry_now d (h.entries d i);
       }
 
@@ -181,6 +182,7 @@ none_broken {B} program t promises v m = record {
   idle = m.idle;
   alarms = m.alarms;
   within = λ x i. i;
+  put_home = refl;
   entries = λ c i. inl i;
 }
 

@@ -4,7 +4,7 @@ use Rattle.tj_park.proofs.Prelude.{Bool, CellId, HasBroken, HasNoRecord, HasWoke
 use Rattle.tj_park.proofs.Prelude.{MayFinish, MayLowerLive, MayWake, OrderedHasSame, Program, Rec, SeatMe, SlotsOf}
 use Rattle.tj_park.proofs.Prelude.{Option, Some, View, WritesBecome, [], ap, became, drop, ended_record, lowered_with}
 use Rattle.tj_park.proofs.Prelude.{rest, result_of, subst, sym, ℕ, ◌∙◌, ◌∷◌, ◌≡◌}
-use Rattle.tj_words.specs.Calls.LiveViews.{MayEnd, ended}
+use Rattle.tj_words.specs.Calls.LiveViews.{MayEnd, ended, homed}
 use Rattle.tj_record.specs.declared.record.Finish.{Finish}
 use Rattle.tj_park.specs.Endings.{HasFinished}
 use Rattle.tj_park.specs.Inner.Closings.{ClosesResult}
@@ -42,7 +42,11 @@ module _ {B : Type 0} {program : Bool → B → Program B} {t : ℕ} {r : Rec B}
   may_close is = subst (λ f. MayCloseResult program t f v1) (sym is)
       (steps.may_close program t r v e.may e.written e.ordered v1 e.broken)
 
-  -- the record is put home
+  -- the task has ended, and its record is home
+  abbrev gone : View B
+  gone = record (ended t closed) { put_home = ended_record r ∷ v1.put_home }
+
+  -- the record is put into its slot
   pub laid : {m3 : SeatMe B} {v2 : View B} {f : Option Finish} {r' : Rec B} {slots : SlotsOf B}
       → m3 ≡ (v2, (t, Some r') ∷ rest slots) → ClosesResult t f v1 v2 → f ≡ r.finish → r' ≡ ended_record r
       → slots ≡ mine → m3 ≡ (closed, (t, Some (ended_record r)) ∷ rest mine)
@@ -58,12 +62,12 @@ module _ {B : Type 0} {program : Bool → B → Program B} {t : ℕ} {r : Rec B}
   -- the task has ended
   pub at_end : {m3 m4 : SeatMe B} {v2 : View B} {f : Option Finish} {r' : Rec B} {slots : SlotsOf B}
       → m3 ≡ (v2, (t, Some r') ∷ rest slots) → ClosesResult t f v1 v2 → f ≡ r.finish → r' ≡ ended_record r
-      → slots ≡ mine → m4 ≡ (ended t m3.0, rest m3.1) → m4 ≡ (ended t closed, rest mine)
+      → slots ≡ mine → m4 ≡ (homed m3.1 (ended t m3.0), rest m3.1) → m4 ≡ (gone, rest mine)
   at_end {m3} {m4} puts closes how is same ends =
       steps.ended_is program t r v e.may e.written e.ordered v1 e.broken (rest mine) e.others m3 m4
       (laid puts closes how is same) ends
 
-  module _ {m4 : SeatMe B} (end : m4 ≡ (ended t closed, rest mine)) where
+  module _ {m4 : SeatMe B} (end : m4 ≡ (gone, rest mine)) where
     pub may_wake : MayWake t m4
     may_wake = steps.may_wake_then program t r v e.may e.written e.ordered v1 e.broken (rest mine) e.others m4 end
 
@@ -84,7 +88,7 @@ module _ {B : Type 0} {program : Bool → B → Program B} {t : ℕ} {r : Rec B}
     -- all of them were
     module _ {chain : List ℕ} {v5 : View B} {s5 : SlotsOf B} (woken : HasWoken t chain [] m4.0 v5) (same : s5 ≡ m4.1)
       where
-        all_woken : HasWoken t chain [] (ended t closed) v5
+        all_woken : HasWoken t chain [] gone v5
         all_woken = steps.woke_then program t r v e.may e.written e.ordered v1 e.broken (rest mine) e.others chain m4 v5
             end woken
 

@@ -10,7 +10,7 @@ use Rattle.tj_park.proofs.Prelude.{more_on, more_same, numbers, record_cells, re
 use Rattle.tj_park.proofs.Prelude.{to_task, with_tokens, without, without_due, ℕ, ⊎_elim, ◌+◌, ◌-◌, ◌<◌, ◌∙◌, ◌∷◌, ◌≡◌}
 use Rattle.tj_park.proofs.Prelude.{◌≢◌, ◌≤◌, ◌⊎◌}
 use Rattle.tj_record.specs.declared.record.Held.{Held}
-use Rattle.tj_words.specs.Calls.LiveViews.{MayEnd, MayLowerLive, Shelves, ended, lowered_with}
+use Rattle.tj_words.specs.Calls.LiveViews.{MayEnd, MayLowerLive, Shelves, ended, homed, lowered_with}
 use Rattle.tj_words.proofs.Waiters.ChainLists.{no_some}
 use Rattle.tj_park.specs.Endings.{HasFinished, result_of}
 use Rattle.tj_park.proofs.BreakSteps.{without_first, held_closed, others_closed, alarms_closed}
@@ -112,6 +112,10 @@ module _ {B : Type 0} (program : Bool → B → Program B) (t : ℕ) (r : Rec B)
         → v2 ≡ closed
     closed_is v2 by = by may.finish may.ending.ending may.finished says_then
 
+    -- the task has ended, and its record is home
+    abbrev pub gone : View B
+    gone = record (ended t closed) { put_home = ended_record r ∷ v1.put_home }
+
     -- the record was put into the slot
     pub laid_is : (m3 : SeatMe B) (v2 : View B) (r' : Rec B) (mine slots : SlotsOf B)
         → m3 ≡ (v2, (t, Some r') ∷ rest mine)
@@ -163,7 +167,7 @@ module _ {B : Type 0} (program : Bool → B → Program B) (t : ℕ) (r : Rec B)
       }
 
       -- those who wait for the result are woken
-      pub may_wake_last : MayWake t (ended t closed, slots)
+      pub may_wake_last : MayWake t (gone, slots)
       may_wake_last = record {
         wakes = record {
           backed = inl (omega arith);
@@ -180,15 +184,15 @@ module _ {B : Type 0} (program : Bool → B → Program B) (t : ℕ) (r : Rec B)
       may_end_then m3 e = subst (λ m. MayEnd program t m) (sym e) may_end
 
       pub ended_is : (m3 m4 : SeatMe B) → m3 ≡ (closed, (t, Some (ended_record r)) ∷ slots)
-          → m4 ≡ (ended t m3.0, rest m3.1)
-          → m4 ≡ (ended t closed, slots)
-      ended_is m3 m4 a b = b ∙ ap (λ (m : SeatMe B). (ended t m.0, rest m.1)) a
+          → m4 ≡ (homed m3.1 (ended t m3.0), rest m3.1)
+          → m4 ≡ (gone, slots)
+      ended_is m3 m4 a b = b ∙ ap (λ (m : SeatMe B). (homed m.1 (ended t m.0), rest m.1)) a
 
-      ended_more : KnowsMore v1 (ended t closed)
-      ended_more = more_in_front v1 (ended t closed) [] (_ ∷ []) (_ ∷ []) [] [] (begins_self v1.born) ([], refl)
+      ended_more : KnowsMore v1 gone
+      ended_more = more_in_front v1 gone [] (_ ∷ []) (_ ∷ []) [] [] (begins_self v1.born) ([], refl)
 
       -- the seat knows what it knew, and has noted nothing
-      pub ended_unnoted : (m4 : SeatMe B) → m4 ≡ (ended t closed, slots) → HasNotedNothing v1 m4.0
+      pub ended_unnoted : (m4 : SeatMe B) → m4 ≡ (gone, slots) → HasNotedNothing v1 m4.0
       ended_unnoted m4 e = subst (λ (m : SeatMe B). HasNotedNothing v1 m.0) (sym e)
           (record { knows = ended_more; notes = refl })
 
@@ -196,22 +200,22 @@ module _ {B : Type 0} (program : Bool → B → Program B) (t : ℕ) (r : Rec B)
       lowered_unnoted v5 m6 e = subst (λ (m : SeatMe B). HasNotedNothing v5 m.0) (sym (e ∙ lowered_alone v5 slots none))
           (record { knows = more_same v5 (with_tokens (v5.tokens - 1) v5) ([], refl); notes = refl })
 
-      pub may_wake_then : (m4 : SeatMe B) → m4 ≡ (ended t closed, slots) → MayWake t m4
+      pub may_wake_then : (m4 : SeatMe B) → m4 ≡ (gone, slots) → MayWake t m4
       may_wake_then m4 e = subst (λ m. MayWake t m) (sym e) may_wake_last
 
-      pub woke_then : (chain : List ℕ) (m4 : SeatMe B) (v5 : View B) → m4 ≡ (ended t closed, slots)
+      pub woke_then : (chain : List ℕ) (m4 : SeatMe B) (v5 : View B) → m4 ≡ (gone, slots)
           → HasWoken t chain [] m4.0 v5
-          → HasWoken t chain [] (ended t closed) v5
+          → HasWoken t chain [] gone v5
       woke_then chain m4 v5 e k = subst (λ (m : SeatMe B). HasWoken t chain [] m.0 v5) e k
 
       -- of which table the seat is stays known, where some were woken
-      pub about_woken : (chain left : List ℕ) (m4 : SeatMe B) (v5 : View B) → m4 ≡ (ended t closed, slots)
+      pub about_woken : (chain left : List ℕ) (m4 : SeatMe B) (v5 : View B) → m4 ≡ (gone, slots)
           → HasWoken t chain left m4.0 v5 → v5.about ≡ v.about
       about_woken chain left m4 v5 e k = ap (λ (u : View B). u.about) k.view
           ∙ (ap (λ (m : SeatMe B). m.0.about) e ∙ h.knows.about)
 
       -- and what it noted stands in front of its notes
-      pub notes_woken : (chain left : List ℕ) (m4 : SeatMe B) (v5 : View B) → m4 ≡ (ended t closed, slots)
+      pub notes_woken : (chain left : List ℕ) (m4 : SeatMe B) (v5 : View B) → m4 ≡ (gone, slots)
           → HasWoken t chain left m4.0 v5 → IsTailOf v.notes v5.notes
       notes_woken chain left m4 v5 e k = tail_on v.notes m4.0.notes v5.notes
           (subst (λ (m : SeatMe B). IsTailOf v.notes m.0.notes) (sym e) h.knows.notes)
@@ -220,11 +224,11 @@ module _ {B : Type 0} (program : Bool → B → Program B) (t : ℕ) (r : Rec B)
       no_dues : without_due t once.Tag (without_due t once.Bits v1.dues) ≡ []
       no_dues = ap (λ d. without_due t once.Tag (without_due t once.Bits d)) h.idle.dues
 
-      module _ (chain : List ℕ) (v5 : View B) (woke : HasWoken t chain [] (ended t closed) v5) where
+      module _ (chain : List ℕ) (v5 : View B) (woke : HasWoken t chain [] gone v5) where
         abbrev woken : View B
-        woken = record (ended t closed) {
+        woken = record gone {
           steps = v5.steps;
-          plain_loads = (ended t closed).plain_loads + length chain;
+          plain_loads = gone.plain_loads + length chain;
           shuts = without t (t ∷ v1.shuts);
           rest = None;
           closed = t ∷ v1.closed;
@@ -258,7 +262,7 @@ module _ {B : Type 0} (program : Bool → B → Program B) (t : ℕ) (r : Rec B)
         knows_last : KnowsMore v last
         knows_last = more_on v v1 last h.knows
             (more_in_front v1 last [] (_ ∷ []) (_ ∷ []) [] (t ∷ []) (begins_self v1.born)
-            (noted_tail t chain [] (ended t closed) v1.notes v5.notes woke.noted))
+            (noted_tail t chain [] gone v1.notes v5.notes woke.noted))
 
         finished_last : HasFinished t r v last
         finished_last = record {
@@ -282,6 +286,7 @@ module _ {B : Type 0} (program : Bool → B → Program B) (t : ℕ) (r : Rec B)
           ending = may.ending.ending;
           says = may.ending.says;
           result = inl refl;
+          put_home = ap (λ l. ended_record r ∷ l) h.put_home;
         }
 
         -- the token is given up

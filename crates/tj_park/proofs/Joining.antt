@@ -93,6 +93,7 @@ module _ {B : Type 0} where
     plain_loads = q.plain_loads ∙ p.plain_loads;
     once_loads = q.once_loads ∙ p.once_loads;
     records = q.records ∙ p.records;
+    put_home = q.put_home ∙ p.put_home;
   }
 
   -- the seat has found this chain of q last, whose head this is
@@ -141,6 +142,7 @@ module _ {B : Type 0} where
     plain_loads = refl;
     once_loads = refl;
     records = refl;
+    put_home = refl;
   }
 
   shut_looks : {program : Bool → B → Program B} (cells q : ℕ) (v w : View B) → FindsShut program cells q v w

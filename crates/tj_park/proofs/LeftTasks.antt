@@ -5,7 +5,7 @@ use Rattle.tj_park.proofs.Prelude.{backing_idle, backing_running, backing_token,
 use Rattle.tj_park.proofs.Prelude.{held_task, hold, let_go, nat_eq, none_some, noted_here, one_some, refl, released}
 use Rattle.tj_park.proofs.Prelude.{subst, suc, sym, true, with_tokens, ℕ, ⊎_elim, ◌-◌, ◌<◌, ◌∙◌, ◌∷◌, ◌≡◌}
 use Rattle.tj_words.specs.declared.view.Does.{Does}
-use Rattle.tj_words.specs.Calls.LiveViews.{came_home, now_home, without_task}
+use Rattle.tj_words.specs.Calls.LiveViews.{came_home, homed, now_home, without_task}
 use Rattle.tj_words.specs.Calls.PutRecords.{PutsHome}
 use Rattle.tj_words.specs.SeatViews.TaskLists.{noted}
 use Rattle.tj_words.proofs.Holders.NotedTasks.{noted_is}
@@ -93,7 +93,7 @@ module _ {B : Type 0} where
 
       -- the view after that
       abbrev pub raised : View B
-      raised = came_home t r (with_tokens (suc v.tokens) v)
+      raised = homed ((t, Some r) ∷ l) (came_home t r (with_tokens (suc v.tokens) v))
 
       same_token : suc v.tokens - 1 ≡ v.tokens
       same_token = omega arith
@@ -102,17 +102,17 @@ module _ {B : Type 0} where
       same_tasks = let_go_noted t may.custody (now_home r) v.tasks may.held refl
 
       -- the child leaves the seat, and the token that was taken for it
-      pub child_released : released t raised ≡ released_child t v
+      pub child_released : released t raised ≡ released_child t r v
       child_released = ap (λ n. record (released t raised) { tokens = n }) same_token
-          ∙ ap (λ ks. record (released_child t v) { tasks = ks }) same_tasks
+          ∙ ap (λ ks. record (released_child t r v) { tasks = ks }) same_tasks
 
       not_running : ¬ DoesRun may.custody.does
       not_running h = subst DoesRun may.unborn h
 
-      backing : Backing (released_child t v)
+      backing : Backing (released_child t r v)
       backing = ⊎_elim
-          (λ (h : 0 < v.tokens). backing_token (released_child t v) h)
-          (λ (h : Holds DoesRun v). backing_running (released_child t v)
+          (λ (h : 0 < v.tokens). backing_token (released_child t r v) h)
+          (λ (h : Holds DoesRun v). backing_running (released_child t r v)
           (holds_without DoesRun t may.custody v may.held not_running h)
           (λ a. may.alarms (holds_before HasAlarmed t v a)))
           may.backed
@@ -145,7 +145,7 @@ module _ {B : Type 0} where
         unfinished = may.leaves.unfinished;
         waits = may.waits;
       };
-      backing = backing_idle (shelved t v) may.idle.pushes may.idle.shuts may.idle.rest
+      backing = backing_idle (shelved t r v) may.idle.pushes may.idle.shuts may.idle.rest
           (λ d. subst (IsIn d.0) may.idle.dues d.1)
           (λ a. let one : 1 < v.tokens = may.alarms a in omega arith);
     }

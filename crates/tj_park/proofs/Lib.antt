@@ -19,3 +19,4 @@ mod OwnedCells
 pub mod ParkLogs
 pub mod WakeLogs
 pub mod EndLogs
+mod ReturnedRecords

@@ -6,7 +6,7 @@ use Rattle.tj_park.proofs.Prelude.{join_steps, map, more_on, more_same, none_som
 use Rattle.tj_park.proofs.Prelude.{subst, suc, sym, true, without_push, ℕ, ◌*◌, ◌++◌, ◌+◌, ◌-◌, ◌<◌, ◌∙◌, ◌∷◌, ◌≡◌, ◌≤◌}
 use Rattle.tj_words.specs.declared.view.Push.{Push}
 use Rattle.tj_words.specs.Calls.ExchangeViews.{MayGoBack}
-use Rattle.tj_words.specs.Calls.LiveViews.{IfRecord, MayLowerLive, SlotsOf, live_lowered, lowered_with}
+use Rattle.tj_words.specs.Calls.LiveViews.{IfRecord, MayLowerLive, SlotsOf, homed, live_lowered, lowered_with}
 use Rattle.tj_words.specs.Calls.ParkSteps.{new_push, with_tokens}
 use Rattle.tj_words.specs.Calls.WaitViews.{MayPark, parked}
 use Rattle.tj_park.specs.Inner.JoinViews.{FindsShutOnce}
@@ -48,18 +48,22 @@ module _ {B : Type 0} where
       waits = may.waits;
     }
 
+    -- the task is parked, and the record is home
+    abbrev pub gone : View B
+    gone = record (parked t q way v) { put_home = r ∷ v.put_home }
+
     -- its push is the one that is to come then
-    pub one_push : (parked t q way v).pushes ≡ new_push t q way ∷ []
+    pub one_push : gone.pushes ≡ new_push t q way ∷ []
     one_push = ap (λ l. new_push t q way ∷ l) may.idle.pushes
 
-    knows_parked : KnowsMore v (parked t q way v)
-    knows_parked = more_same v (parked t q way v) ([], refl)
+    knows_parked : KnowsMore v gone
+    knows_parked = more_same v gone ([], refl)
 
     -- w is the view after the task was added to the chain, or the head found shut
-    module _ (w : View B) (looks : LooksOn cells (parked t q way v) w)
+    module _ (w : View B) (looks : LooksOn cells gone w)
         (few : w.steps ≤ suc v.steps + join_steps cells) (news : HasFoundChains cells v w) where
       knows : KnowsMore v w
-      knows = more_on v (parked t q way v) w knows_parked looks.knows
+      knows = more_on v gone w knows_parked looks.knows
 
       alarms_before : Holds HasAlarmed w → Holds HasAlarmed v
       alarms_before h =
@@ -113,7 +117,7 @@ module _ {B : Type 0} where
               refl,
             )
 
-      module _ (shut : IsAdded q false (parked t q way v) w) where
+      module _ (shut : IsAdded q false gone w) where
         -- the push that is still to come
         one_left : w.pushes ≡ push_behind t q way shut.0.0 ∷ []
         one_left = shut.0.1 ∙ ap (map (λ (p : Push). record p { next = shut.0.0 })) one_push
@@ -183,9 +187,9 @@ module _ {B : Type 0} where
 
     -- the seats as the call goes on: with the record in its slot, with Parked stored, and after the way to the chain
     module _ {l : SlotsOf B} {m1 m2 : SeatMe B} (m3 : SeatMe B) (laid : m1 ≡ (v, (t, Some r) ∷ l))
-        (stored : m2 ≡ (parked t q way m1.0, rest m1.1)) where
-      is_parked : m2 ≡ (parked t q way v, l)
-      is_parked = stored ∙ ap (λ (z : SeatMe B). (parked t q way z.0, rest z.1)) laid
+        (stored : m2 ≡ (homed m1.1 (parked t q way m1.0), rest m1.1)) where
+      is_parked : m2 ≡ (gone, l)
+      is_parked = stored ∙ ap (λ (z : SeatMe B). (homed z.1 (parked t q way z.0), rest z.1)) laid
 
       pub parked_push : m2.0.pushes ≡ new_push t q way ∷ []
       parked_push = ap (λ (z : SeatMe B). z.0.pushes) is_parked ∙ one_push
@@ -199,7 +203,7 @@ module _ {B : Type 0} where
         joined : m3 ≡ (m3.0, l)
         joined = ap (λ s. (m3.0, s)) parked_slots
 
-        looked : LooksOn cells (parked t q way v) m3.0
+        looked : LooksOn cells gone m3.0
         looked = subst (λ (z : SeatMe B). LooksOn cells z.0 m3.0) is_parked looks
 
         in_few : m3.0.steps ≤ suc v.steps + join_steps cells
@@ -213,19 +217,24 @@ module _ {B : Type 0} where
         }
 
         module _ (was_added : b ≡ true) (none : HasNoRecord l) where
-          gone : m3.0.pushes ≡ []
-          gone = subst (λ z. IsAdded q z m2.0 m3.0) was_added added
+          pushed : m3.0.pushes ≡ []
+          pushed = subst (λ z. IsAdded q z m2.0 m3.0) was_added added
 
           pub parked_lower : MayLowerLive program m3
-          parked_lower = subst (MayLowerLive program) (sym joined) (lower_left m3.0 looked in_few news gone l none)
+          parked_lower = subst (MayLowerLive program) (sym joined) (lower_left m3.0 looked in_few news pushed l none)
 
           pub parked_left : {m4 : SeatMe B} → m4 ≡ live_lowered m3 → LeftTask cells t v m4.0 × (m4.1 ≡ l)
-          parked_left {m4} e = left_task m3.0 looked in_few news gone
+          parked_left {m4} e = left_task m3.0 looked in_few news pushed
               (subst (λ z. FindsShutOnce q z m2.0 m3.0) was_added closes
               ∙ ap (λ (z : SeatMe B). z.0.closed) is_parked) m4 l none (e ∙ ap live_lowered joined)
 
+          -- the record that was put into the slot is home
+          pub left_home : {m4 : SeatMe B} → m4 ≡ live_lowered m3 → m4.0.put_home ≡ r ∷ v.put_home
+          left_home {m4} e = ap (λ (z : SeatMe B). z.0.put_home)
+              (e ∙ (ap live_lowered joined ∙ lowered_alone m3.0 l none)) ∙ looked.put_home
+
         module _ (was_shut : b ≡ false) where
-          stays : IsAdded q false (parked t q way v) m3.0
+          stays : IsAdded q false gone m3.0
           stays = subst (λ (z : SeatMe B). IsAdded q false z.0 m3.0) is_parked
               (subst (λ z. IsAdded q z m2.0 m3.0) was_shut added)
 
@@ -237,3 +246,7 @@ module _ {B : Type 0} where
           parked_back {x} {u} back = gave_back m3.0 looked in_few news stays
               (subst (λ z. FindsShutOnce q z m2.0 m3.0) was_shut closes
               ∙ ap (λ (z : SeatMe B). q ∷ z.0.closed) is_parked) x u back
+
+          -- the record that was put into the slot went home before
+          pub back_home : {x : Rec B} {u : View B} → TakesBack program t q x m3.0 u → u.put_home ≡ r ∷ v.put_home
+          back_home back = back.put_home ∙ looked.put_home

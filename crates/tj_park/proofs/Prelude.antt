@@ -26,7 +26,7 @@ pub use Rattle.tj_events.specs.declared.walk.Way.{Way}
 pub use Rattle.tj_park.specs.ChildViews.{Claimed}
 pub use Rattle.tj_park.specs.Endings.{MayFinish, result_of}
 pub use Rattle.tj_park.specs.Inner.Breaks.{HasBroken, MayBreak}
-pub use Rattle.tj_park.specs.Inner.Closings.{MayCloseResult, ended_record}
+pub use Rattle.tj_park.specs.Inner.Closings.{MayCloseResult}
 pub use Rattle.tj_park.specs.Inner.JoinViews.{IsAdded, LooksOn, TakesBack, join_steps, push_behind}
 pub use Rattle.tj_park.specs.ParkViews.{HasFoundChains}
 pub use Rattle.tj_park.specs.Records.{HasNoRecord}
@@ -62,6 +62,7 @@ pub use Rattle.tj_words.specs.declared.head.Head.{Head}
 pub use Rattle.tj_words.specs.declared.phase.Phase.{Phase}
 pub use Rattle.tj_record.specs.declared.record.Finish.{Finish}
 pub use Rattle.tj_record.specs.declared.record.Rec.{Rec}
+pub use Rattle.tj_record.specs.TaskRecords.{ended_record}
 pub use Rattle.tj_words.specs.declared.view.Custody.{Custody}
 pub use Rattle.tj_words.specs.declared.view.Filled.{Filled}
 pub use Rattle.tj_words.specs.declared.view.Rest.{Rest}

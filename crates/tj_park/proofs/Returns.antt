@@ -60,6 +60,7 @@ module _ {B : Type 0} {program : Bool → B → Program B} {t q : ℕ} (way : Wa
       taken = has_taken program t m.0 b.0 b.1 (record went { cleared = n; steps = s }) m.0 refl refl refl refl refl;
       waited = b.2;
       records = refl;
+      put_home = refl;
     }
 
     -- the record is taken out of its slot

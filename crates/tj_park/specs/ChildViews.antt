@@ -34,12 +34,18 @@ module _ {B : Type 0} where
 
   -- the record of the child lies at home, and the seat holds the child still; it took a token for it, in one step
   abbrev pub child_home : ℕ → Rec B → View B → View B
-  child_home t r v =
-      record v { steps = suc v.steps; tokens = suc v.tokens; tasks = noted t (now_home r) v.tasks }
+  child_home t r v = record v {
+    steps = suc v.steps;
+    tokens = suc v.tokens;
+    tasks = noted t (now_home r) v.tasks;
+    put_home = r ∷ v.put_home;
+  }
 
-  -- the child is ready and has left the seat, in two steps; the token that was taken for it is spent
-  abbrev pub released_child : ℕ → View B → View B
-  released_child t v = record v { steps = suc (suc v.steps); tasks = let_go t v.tasks }
+  -- the child is ready and has left the seat, which put this record home, in two steps; the token that was taken for it
+  -- is spent
+  abbrev pub released_child : ℕ → Rec B → View B → View B
+  released_child t r v =
+      record v { steps = suc (suc v.steps); tasks = let_go t v.tasks; put_home = r ∷ v.put_home }
 
   -- the seat has claimed t, in one step, and holds it besides
   pub record Claimed (program : Bool → B → Program B) (t : ℕ) (r : Rec B) (v w : View B) : Type 0 where
@@ -70,6 +76,11 @@ module _ {B : Type 0} where
     pub token : 0 < v.tokens
     pub alarms : AlarmsLeave 1 (without_task t v)
 
-  -- the task has left the seat, in one step, for good; a token is given up
-  abbrev pub shelved : ℕ → View B → View B
-  shelved t v = record v { steps = suc v.steps; tokens = v.tokens - 1; tasks = let_go t v.tasks }
+  -- the task has left the seat, which put this record home, in one step, for good; a token is given up
+  abbrev pub shelved : ℕ → Rec B → View B → View B
+  shelved t r v = record v {
+    steps = suc v.steps;
+    tokens = v.tokens - 1;
+    tasks = let_go t v.tasks;
+    put_home = r ∷ v.put_home;
+  }

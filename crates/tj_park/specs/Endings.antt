@@ -1,6 +1,6 @@
 -- How a task ends: what `finish` asks of the record, of the point of the task's history that it tells and of the seat,
 -- and what it makes of the seat.
-use Rattle.std.specs.Prelude.{◌≡◌, ◌⊎◌, ◌↔◌, ℕ, ◌+◌, ◌<◌, Bool, List, [], drop, Option, Some, None}
+use Rattle.std.specs.Prelude.{◌≡◌, ◌⊎◌, ◌↔◌, ℕ, ◌+◌, ◌<◌, ◌∷◌, Bool, List, [], drop, Option, Some, None}
 use mathlib.Core.Option.{some}
 use lib.ListN.{get_elem?}
 use Rattle.atomic_table.specs.Table.{State}
@@ -19,6 +19,7 @@ use Rattle.tj_body.specs.declared.point.PointStage.TheVariants as stage
 use Rattle.tj_body.specs.declared.point.Reference.{Reference}
 use Rattle.tj_record.specs.declared.record.Finish.{Finish}
 use Rattle.tj_record.specs.declared.record.Rec.{Rec}
+use Rattle.tj_record.specs.TaskRecords.{ended_record}
 use Rattle.tj_words.specs.declared.phase.Phase.TheVariants as phase
 use Rattle.tj_words.specs.declared.table.Key.{Key}
 use Rattle.tj_words.specs.declared.view.About.{About}
@@ -102,6 +103,8 @@ module _ {B : Type 0} where
     pub ending : Close
     pub says : FinishSays v.born finish ending
     pub result : HasSeen w.filled t (result_of ending)
+    -- the seat's steps put one record home, which is this one, its task having ended
+    pub put_home : w.put_home ≡ ended_record r ∷ v.put_home
 
   -- no seat holds the task
   abbrev pub IsWithNobody : ℕ → List (View B) → Type 0

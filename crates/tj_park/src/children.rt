@@ -38,8 +38,9 @@ pub fn release<B: Body, P: Pool, R: Wait>(
     ensures table { seat.new.table_id ≡ seat.old.table_id }
     // It is the same seat.
     ensures id { seat.new.id ≡ seat.old.id }
-    // The child has left the seat, and its slot too, whatever the pool answers.
-    ensures me { seat.new.me ≡ (released_child t.0 seat.old.me.0, rest seat.old.me.1) }
+    // The child has left the seat, and its slot too, whatever the pool answers. The record that was
+    // passed is the one that the seat put home.
+    ensures me { seat.new.me ≡ (released_child t.0 rec seat.old.me.0, rest seat.old.me.1) }
     // The pool's limit stays.
     ensures limit { P.limit pool.new ≡ P.limit pool.old }
     // After `Ok` the pool tells that the child was put into it.

@@ -56,7 +56,8 @@ pub fn finish<B: Body, P: Pool, R: Wait>(
     ensures limit { P.limit pool.new ≡ P.limit pool.old }
     // After `Ok` the task has left the seat; the seat knows that each promise that it owed is
     // broken, and that its result is as its record's finish says; nothing is to come for the seat
-    // that wasn't, and its counts are as before.
+    // that wasn't, and its counts are as before. Its steps put one record home: the one that was
+    // passed, with its task ended.
     ensures ended { OnOk result (HasFinished t.0 rec seat.old.me.0 seat.new.me.0) }
     // Its slot has left the seat too.
     ensures slots { OnOk result (seat.new.me.1 ≡ rest seat.old.me.1) }

@@ -51,7 +51,10 @@ pub fn park<B: Body>(
     // number of cells. Each push asks for the chain found last (`left_log`), so there were at most
     // N of them.
     ensures left { IfLeft result (LeftTask laid.now.cells t.0 seat.old.me.0 seat.new.me.0) }
-    // Its slot has left the seat too.
+    // Whether it is left or runs again, the seat's steps put one record home, which is the one that was
+    // passed.
+    ensures home { seat.new.me.0.put_home ≡ rec ∷ seat.old.me.0.put_home }
+    // Its slot has left the seat too, where it is left.
     ensures left_slot { IfLeft result (seat.new.me.1 ≡ rest seat.old.me.1) }
     // The task runs again with the seat, which knows that the chain of the cell is shut and what
     // has become of the cell; its counts are as before, and there were at most 2N + 6 steps. The
@@ -61,6 +64,8 @@ pub fn park<B: Body>(
     ensures back { IfBack result (λ r. GaveBack
         (program_of B.places B.awaits B.left B.asks B.then) laid.now.cells t.0 q.0 r
         seat.old.me.0 seat.new.me.0) }
+    // The record is the one that was passed.
+    ensures same { IfBack result (λ r. r ≡ rec) }
     // Its slot is the seat's, and empty.
     ensures back_slot { IfBack result (λ _. seat.new.me.1 ≡ (t.0, None) ∷ rest seat.old.me.1) }
     // Where the task is left, the steps of this call are: PHASE is stored as Parked, the head is

@@ -22,8 +22,9 @@ pub fn shelve<B: Body>(laid: &Laid<B>, seat: &mut WSeat<B>, t: CellId, rec: Rec<
     ensures table { seat.new.table_id ≡ seat.old.table_id }
     // It is the same seat.
     ensures id { seat.new.id ≡ seat.old.id }
-    // The task has left the seat with its slot, and a token is given up.
-    ensures me { seat.new.me ≡ (shelved t.0 seat.old.me.0, rest seat.old.me.1) }
+    // The task has left the seat with its slot, and a token is given up. The record that was passed
+    // is the one that the seat put home.
+    ensures me { seat.new.me ≡ (shelved t.0 rec seat.old.me.0, rest seat.old.me.1) }
     // The call is one step: LIVE is lowered.
     ensures log { (n : ℕ) × IsLogged call.lowers_live 1 0 n seat.old seat.new }
 {

@@ -10,6 +10,8 @@ use Rattle.tj_words.specs.SeatViews.FullMeaning.{NamesFull}
 use Rattle.tj_words.specs.SeatViews.KnowsMore.{IsTailOf}
 use Rattle.tj_words.specs.SeatViews.SeatSteps.{SeatMe}
 use Rattle.tj_words.specs.SeatViews.Views.{IsIdle, saw_rest, saw_stop}
+use Rattle.tj_words.specs.Words.StopWords as words
+use Rattle.tj_words.specs.declared.stop.Stop.TheVariants as stops
 use Rattle.tj_run.specs.declared.why.Why.{Why}
 use Rattle.tj_run.specs.declared.why.Why.TheVariants as why
 use Rattle.tj_run.specs.declared.why.Left.{Left}
@@ -17,8 +19,8 @@ use Rattle.tj_run.specs.declared.why.Left.TheVariants as left
 
 -- how STOP says why
 abbrev pub stop_word : Why → ℕ
-stop_word why.Full = 1
-stop_word why.Memory = 2
+stop_word why.Full = words.stop_word stops.Full
+stop_word why.Memory = words.stop_word stops.Memory
 
 -- the last step of a worker, by how it leaves: it loaded LIVE as 0, or STOP as what says why
 abbrev pub last_entry : Left → Entry

@@ -41,8 +41,9 @@ pub fn begun<B: Body, P: Pool, R: Wait>(
     // An error is never Full.
     ensures memory { IfErr result (λ fault. fault ≢ RunFault.Full) }
 {
-    let mut ends = P::make(rt, alloc, workers, cells)?;
+    // The table first: the ends take the memory of the list of slots from which it is made.
     let (laid, seat) = Laid::new(alloc, cells, root, strict)?;
+    let mut ends = P::make(rt, alloc, workers, cells)?;
     if let Some(first) = ends.as_mut_slice().first_mut() {
         first.put(rt, alloc, CellId(0))?;
     }

@@ -24,6 +24,7 @@ use Rattle.tj_words.specs.CallLaws.CallRuns.{AreAskedMoments, CallRunsAreLegal, 
 use Rattle.tj_words.specs.CallLaws.CallRuns.{IsAskedCall, IsIdleMerge, OwnerEvents, OwnerReads, SeatsAreQuiet, acts_by}
 use Rattle.tj_words.specs.CallLaws.CallRuns.{asked_by, AreShown, StepShows, live_act, phase_act, swap_events}
 use Rattle.tj_words.specs.SeatViews.Views.{stepped_on}
+use Rattle.tj_words.specs.Calls.LiveViews.{put_with}
 use Rattle.tj_words.specs.Calls.PhaseViews.{MayPutPhase}
 use Rattle.tj_runs.proofs.CallChanges.{ShowsSame, as_it_was, head_same, live_same, lower_same, merge_merges}
 use Rattle.tj_runs.proofs.CallChanges.{once_same, push_same, raise_same, shut_same, holdings, put_same}
@@ -230,7 +231,8 @@ module _ {B : Type 0} (program : Bool → B → Program B) (key : Key B) (u : Ru
         (keeping (table_word.Phase c) h a (view_is p) ∙ ready_path r id h.at may n is) refl
         (ready_quiet r id h.at may)
     puts_phase phase.Ended c h l is p may a = quiet
-        (giving (table_word.Phase c) h a may.puts.slot (view_is p) ∙ end_path r id h.at may n is) refl
+        (giving (table_word.Phase c) h a may.puts.slot (view_is p)
+        ∙ end_path r id h.at may (put_with m.1 m.0.put_home) n is) refl
         (end_quiet r id h.at may)
     puts_phase phase.Promise c h l is p may a = quiet
         (keeping (table_word.Phase c) h a (view_is p) ∙ mark_path r id h.at may n is) refl
@@ -239,7 +241,8 @@ module _ {B : Type 0} (program : Bool → B → Program B) (key : Key B) (u : Ru
         (keeping (table_word.Phase c) h a (view_is p) ∙ publish_path r id h.at may n is) refl
         (publish_event r id h.at may)
     puts_phase (phase.Waiting d way walk.Parked) c h l is p may a = shows
-        (giving (table_word.Phase c) h a may.puts.slot (view_is p) ∙ park_path r id h.at may n is) refl
+        (giving (table_word.Phase c) h a may.puts.slot (view_is p)
+        ∙ park_path r id h.at may (put_with m.1 m.0.put_home) n is) refl
         (park_event r id h.at may)
     puts_phase (phase.Waiting d way walk.Alarmed) c h l is p may a = shows
         (keeping (table_word.Phase c) h a (view_is p) ∙ alarm_path r id h.at may n is) refl
@@ -296,7 +299,7 @@ module _ {B : Type 0} (program : Bool → B → Program B) (key : Key B) (u : Ru
     raises : (slots : SlotsOf B) → m.1 ≡ slots → Made live_at → act ≡ live_act slots → m' ≡ raised_with m.0 m.1
         → IfRecord (λ c a. LaysChild program c a m) slots → Quiet
     raises ((c, Some f) ∷ slots) e h a p may = quiet (giving table_word.Live h a may.puts.slot
-        (view_is (p ∙ ap (raised_with m.0) may.puts.slot)) ∙ home_path r id h.at may n) refl
+        (view_is (p ∙ ap (raised_with m.0) may.puts.slot)) ∙ home_path r id h.at may n (f ∷ m.0.put_home)) refl
         (home_quiet r id h.at may n)
     raises slots e h a p may = hides table_word.Live h a
         (raise_same m m' p (subst (IfRecord (λ c a. ⊥)) (sym e) tt)) refl refl

@@ -17,7 +17,7 @@ one_passed held (k ∷ (l ∷ ks)) e = absurd (omega arith)
 
 module _ {B : Type 0} {program : Bool → B → Program B} {laid : Laid B} {r : Rec B} {b : B} {pass : List ℕ}
     {me : SeatMe B} {c : CellId} {u : View B} (h : HasGiven program laid r b pass [] me c r.owned u)
-    (s : SeatMe B) (slots : SlotsOf B) (released : s ≡ (released_child c.0 u, rest slots))
+    {x : Rec B} (s : SeatMe B) (slots : SlotsOf B) (released : s ≡ (released_child c.0 x u, rest slots))
     (its_slot : slots ≡ (c.0, None) ∷ me.1) where
   -- the record holds the child, and the task runs on
   pub child_made : (held : List Held) → held ≡ r.held ++ record { cell = c; sort = sort.Task } ∷ []

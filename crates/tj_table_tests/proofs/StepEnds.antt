@@ -5,10 +5,11 @@ use Rattle.tj_run.proofs.Prelude.{MayGiveUp, MayWake, None, Program, Rec, SeatMe
 use Rattle.tj_run.proofs.Prelude.{[], ap, became, drop, length, refl, rest, subst, sym, ℕ, ◌<◌, ◌∙◌, ◌∷◌, ◌≡◌, ◌≢◌}
 use Rattle.tj_words.specs.declared.head.Head.{Head}
 use Rattle.tj_words.specs.Calls.ChainSteps.{TakesChain, found_taken}
-use Rattle.tj_words.specs.Calls.LiveViews.{HasSlot, MayLowerLive, ended, lowered_with}
+use Rattle.tj_words.specs.Calls.LiveViews.{HasSlot, MayLowerLive, ended, homed, lowered_with}
+use Rattle.tj_record.specs.TaskRecords.{ended_record}
 use Rattle.tj_park.specs.Inner.Breaks.{HasBroken}
 use Rattle.tj_park.specs.Endings.{MayFinish, result_of}
-use Rattle.tj_park.specs.Inner.Closings.{MayCloseResult, ended_record}
+use Rattle.tj_park.specs.Inner.Closings.{MayCloseResult}
 use Rattle.tj_park.proofs.BreakSteps.{none_broken}
 use Rattle.tj_park.proofs.ResultCloses.{filled_closes, may_close_last, may_fill_last}
 use Rattle.tj_park.proofs.WakeLoops.{Waking, none_left, waking_at_first}
@@ -117,9 +118,13 @@ module _ {B : Type 0} {program : Bool → B → Program B} {laid : Laid B} {r : 
     pub ends_next : MayEnd program t m4
     ends_next = steps.may_end_then program t r' me.0 may written h.ordered me.0 broken (rest me.1) no_other m4 laid_in
 
+    -- its record is home
+    abbrev gone : View B
+    gone = homed ((t, Some (ended_record r')) ∷ rest me.1) (ended t done_view)
+
     -- then the head of its result is shut
-    module _ (m5 : SeatMe B) (over : m5 ≡ (ended t m3.0, rest m3.1)) where
-      over_is : m5 ≡ (ended t done_view, rest me.1)
+    module _ (m5 : SeatMe B) (over : m5 ≡ (homed m4.1 (ended t m3.0), rest m3.1)) where
+      over_is : m5 ≡ (gone, rest me.1)
       over_is = steps.ended_is program t r' me.0 may written h.ordered me.0 broken (rest me.1) no_other m4 m5
           laid_in over
 
@@ -129,7 +134,7 @@ module _ {B : Type 0} {program : Bool → B → Program B} {laid : Laid B} {r : 
 
       -- nobody was there, and the token is given up
       module _ (m6 : SeatMe B) (woke : HasWoken t [] [] m5.0 m6.0) (mine : m6.1 ≡ m5.1) where
-        woke_is : HasWoken t [] [] (ended t done_view) m6.0
+        woke_is : HasWoken t [] [] gone m6.0
         woke_is = steps.woke_then program t r' me.0 may written h.ordered me.0 broken (rest me.1) no_other [] m5
             m6.0 over_is woke
 

@@ -4,7 +4,7 @@ ghost use Rattle.atomic_table.specs.Table.{rest};
 ghost use Rattle.tj_body.specs.Programs.{program_of};
 ghost use Rattle.tj_record.specs.declared.record.Finish.TheVariants.{Done};
 ghost use Rattle.tj_words.specs.SeatViews.KnowsMore.{KnowsMore};
-ghost use Rattle.tj_words.specs.Calls.LiveViews.{HasSlot, MayEnd, ended};
+ghost use Rattle.tj_words.specs.Calls.LiveViews.{HasSlot, MayEnd, ended, homed};
 ghost use Rattle.tj_words.specs.SeatViews.SeatSteps.{IsCellOf, IsSeatOf};
 ghost use Rattle.tj_run.specs.Workers.{table_program};
 ghost use Rattle.tj_run.specs.Inner.Carried.{IsClosing, RunsTask};
@@ -54,7 +54,11 @@ impl<B: Body, R: Wait + Abort> Rig<'_, B, R> {
         requires may { MayEnd (program_of B.places B.awaits B.left B.asks B.then) t.0
             (seat.old.me.0, (t.0, Some rec) ∷ rest seat.old.me.1) }
         ensures table { seat.new.table_id ≡ seat.old.table_id }
-        ensures me { seat.new.me ≡ (ended t.0 seat.old.me.0, rest seat.old.me.1) }
+        ensures me { seat.new.me ≡ (
+          homed ((t.0, Some rec) ∷ rest seat.old.me.1)
+              (ended t.0 seat.old.me.0),
+          rest seat.old.me.1,
+        ) }
     {
         drop(self.laid.slot_swap(seat, t, Some(rec)));
         self.laid.put_phase(seat, t, Phase::Ended);

@@ -7,7 +7,7 @@ ghost use Rattle.tj_told.specs.ToldLinks.{SeesName};
 use std::alloc::Global;
 use tj_base::{CellId, Name, Oom};
 use tj_body::Body;
-use tj_words::{Laid, Once, WSeat};
+use tj_words::{Laid, Once, WSeat, link_cell};
 
 /// The name of a cell that the seat knows: it loads PARENT and KID of the cell, and of each maker of it
 /// up to the root.
@@ -33,7 +33,7 @@ pub fn name_at<B: Body>(
         let parent = laid.see_once(seat, CellId(at), Once::Parent);
         let kid = laid.see_once(seat, CellId(at), Once::Kid);
         parts.push(kid as u32)?;
-        at = parent.saturating_sub(1) as u32;
+        at = link_cell(parent).0;
     }
     parts.reverse();
     name_with(alloc, parts.as_slice())

@@ -11,3 +11,4 @@ pub mod Meaning
 pub mod Seating
 pub mod Lemmas
 pub mod CallTerms
+pub mod KeptWords

@@ -12,3 +12,4 @@ pub mod LiveStores
 pub mod LiveCalls
 pub mod StopSteps
 pub mod OthersSteps
+pub mod PushedRecords

@@ -34,6 +34,7 @@ use Rattle.tj_body.specs.Asks.{IsFresh}
 use Rattle.tj_body.specs.Programs.{Program}
 use Rattle.tj_words.specs.LawParts.Meaning.{Meaning}
 use Rattle.tj_words.specs.LawParts.RecordPhases.{WaitersOwn, RecordsFit}
+use Rattle.tj_words.specs.LawParts.PushedRecords.{LieAsPut}
 
 -- the fields of a view of which something holds alone
 pub record SeatPart (B : Type 0) : Type 0 where
@@ -138,4 +139,6 @@ module _ {B : Type 0} where
     pub all_slots : length s.homes ≡ key.cells
     pub codes : Codes key.cells s.words
     pub seats : Each (λ j v. IsSeat key v) s.views
+    -- the record of a task that a seat is to push lies at home as this seat put it there
+    pub pushed : Each (λ j (v : View B). LieAsPut s.homes v.pushes v.put_home) s.views
     pub law : Law (program key.strict key.root.value) key.cells (contents_of s)

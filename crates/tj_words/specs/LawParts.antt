@@ -15,3 +15,4 @@ pub mod Meaning
 pub mod RecordPhases
 pub mod Contents
 pub mod FirstState
+pub mod PushedRecords

@@ -38,8 +38,9 @@ impl<B: Body> Laid<B> {
         ensures seat { seat.new.id ≡ seat.old.id }
         // After `Ok` from Ready the seat holds the task, and has its slot with its record, which
         // tells a point of the program by what the seat knows then; so it has where it takes a task
-        // back that it had parked; where it wakes the first of its rest, that task is in the rest
-        // no more, and a token is spent.
+        // back that it had parked, and the record is the one that it put home last of the task;
+        // where it wakes the first of its rest, that task is in the rest no more, and a token is
+        // spent.
         ensures swapped { OnOk result (Swaps (program_of B.places B.awaits B.left B.asks B.then)
             t.0 was to seat.old.me seat.new.me) }
         // An error is one of an exchange from Ready, and tells another phase; the seat is as it

@@ -45,6 +45,7 @@ pub use view::{
     About, Custody, Does, Due, Filled, Found, Hand, Note, Noted, Push, Rest, SeenWord, View,
 };
 
+mod first_rows;
 mod links;
 mod parking;
 mod stop;

@@ -26,8 +26,8 @@ impl<B: Body> Laid<B> {
         ensures table { seat.new.table_id ≡ seat.old.table_id }
         // It is the same seat.
         ensures id { seat.new.id ≡ seat.old.id }
-        // The seat has one token more; a record that was put into the slot taken last is home, and
-        // its slot given back.
+        // The seat has one token more; a record that was put into the slot taken last is home, among
+        // those that the seat put there, and its slot given back.
         ensures me { seat.new.me ≡ live_raised seat.old.me }
         // The seat's log is longer by one entry: 1 was added to LIVE.
         ensures log { (n : ℕ) × IsLogged call.raises_live 1 0 n seat.old seat.new }
@@ -48,7 +48,8 @@ impl<B: Body> Laid<B> {
         // It is the same seat.
         ensures id { seat.new.id ≡ seat.old.id }
         // The seat has one token less; where a record was put into the slot taken last, it is home,
-        // its slot is given back, and the task that has alarmed has left the seat.
+        // among those that the seat put there, its slot is given back, and the task that has alarmed
+        // has left the seat.
         ensures me { seat.new.me ≡ live_lowered seat.old.me }
         // The seat's log is longer by one entry: 1 was subtracted from LIVE.
         ensures log { (n : ℕ) × IsLogged call.lowers_live 1 0 n seat.old seat.new }

@@ -7,7 +7,7 @@ ghost use Rattle.tj_words.specs.CallLaws.StepCalls as call;
 ghost use Rattle.tj_words.specs.CallLaws.StepLogs.{IsLogged, KeepsBefore};
 ghost use Rattle.tj_words.specs.Calls.DrawViews as draws;
 ghost use Rattle.tj_words.specs.Calls.DrawViews.{MayMark};
-ghost use Rattle.tj_words.specs.Calls.LiveViews.{MayEnd, MayRelease, ended, released};
+ghost use Rattle.tj_words.specs.Calls.LiveViews.{MayEnd, MayRelease, ended, homed, released};
 ghost use Rattle.tj_words.specs.Calls.PhaseViews.{MayPutPhase, PutsPhase, WaitsBelow};
 ghost use Rattle.tj_words.specs.Calls.WaitViews.{MayPutWait, PutsWait};
 ghost use Rattle.tj_words.specs.SeatViews.SeatSteps.{IsSameSeat};
@@ -38,8 +38,8 @@ impl<B: Body> Laid<B> {
         // It is the same seat.
         ensures id { seat.new.id ≡ seat.old.id }
         // What the seat has for the task is what the phase says. A task that is ready, parked or
-        // has ended has left the seat; of one that is parked or has ended the slot with its record
-        // is given back; a parked one is to be pushed.
+        // has ended has left the seat; of one that is parked or has ended the slot is given back, and
+        // the record in it is among those that the seat put home; a parked one is to be pushed.
         ensures puts { PutsPhase t.0 p seat.old.me seat.new.me }
         // The seat's log is longer by one entry: the word of this phase was stored into PHASE of
         // the cell.
@@ -114,7 +114,7 @@ impl<B: Body> Laid<B> {
         requires may { MayEnd (program_of B.places B.awaits B.left B.asks B.then) t.0 seat.old.me }
         ensures table { seat.new.table_id ≡ seat.old.table_id }
         ensures id { seat.new.id ≡ seat.old.id }
-        ensures me { seat.new.me ≡ (ended t.0 seat.old.me.0, rest seat.old.me.1) }
+        ensures me { seat.new.me ≡ (homed seat.old.me.1 (ended t.0 seat.old.me.0), rest seat.old.me.1) }
         ensures log { IsLogged (call.puts_phase t.0) (phase_word Phase.Ended) 0
             (phase_word Phase.Ended) seat.old seat.new }
         ensures before { KeepsBefore seat.old seat.new }

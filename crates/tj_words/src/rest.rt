@@ -1,4 +1,5 @@
-//! Rest: a table whose last seat has come back is closed. Its words and records stay as they are.
+//! Rest: a table whose last seat has come back is closed, and its words and records stay as they are. A table that is
+//! left before its rest is closed too; its records are dropped.
 ghost use Rattle.std.specs.Prelude.{◌≡◌, ◌↔◌, ◌<◌, ◌≤◌, ◌^◌, List, length, get_or, vec_len, vec_capacity, None, Option};
 ghost use Rattle.std.specs.Option.{option_map};
 ghost use Rattle.tj_body.specs.Programs.{program_of};

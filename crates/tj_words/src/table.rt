@@ -8,6 +8,7 @@ ghost use Rattle.tj_words.specs.LawParts.FirstState as first;
 ghost use Rattle.tj_words.specs.LawParts.FirstState.{first_slots, first_words, first_view};
 
 use crate::closed::RestCell;
+use crate::first_rows::{KEPT_CELLS, kept_words};
 use crate::links::link_word;
 use crate::offsets::{CELL_WORDS, COUNT, LIVE, Once, TABLE_WORDS, once_at, own_at, phase_at};
 use crate::owner::word_of_owner;
@@ -111,7 +112,7 @@ impl<B: Body> Laid<B> {
         start_meets_facts();
         points_in_rounds::<B>();
         let room = Vec::with_capacity(alloc, cells as usize)?;
-        let words = words_at_first(alloc, cells)?;
+        let list = list_at_first(alloc, cells)?;
         let key = Key {
             cells,
             root: Snapshot::of(&root),
@@ -119,7 +120,7 @@ impl<B: Body> Laid<B> {
         };
         let about = Snapshot::of(&root);
         let slots = slots_at_first(alloc, cells, root)?;
-        match LogTable::new(alloc, words.as_slice(), slots, &key) {
+        match LogTable::new(alloc, words_at_first(cells, &list), slots, &key) {
             Ok((table, seat)) => Ok((
                 Laid {
                     table,
@@ -146,12 +147,29 @@ impl<B: Body> Laid<B> {
     }
 }
 
-/// The words of a new table: the root is drawn and ready, and owns its result.
-fn words_at_first(alloc: Global, cells: u32) -> Result<Vec<u64>, Oom>
+/// The words of a new table: those that stand in the program, or the list where there aren't as many.
+fn words_at_first(cells: u32, list: &Vec<u64>) -> &[u64]
+    requires some { 0 < cells }
+    requires listed { KEPT_CELLS < cells → list.now.items ≡ first_words cells }
+    ensures { result.now ≡ first_words cells }
+{
+    if cells <= KEPT_CELLS {
+        kept_words(cells)
+    } else {
+        list.as_slice()
+    }
+}
+
+/// A list of the words of a new table that has more cells than stand in the program: the root is drawn and ready, and
+/// owns its result. For a smaller table it is empty.
+fn list_at_first(alloc: Global, cells: u32) -> Result<Vec<u64>, Oom>
     requires some { 0 < cells }
     requires few { cells ≤ MAX_CELLS }
-    ensures { IfOk result (λ words. words.items ≡ first_words cells) }
+    ensures { KEPT_CELLS < cells → IfOk result (λ list. list.items ≡ first_words cells) }
 {
+    if cells <= KEPT_CELLS {
+        return Ok(Vec::new(alloc));
+    }
     let root = CellId(0);
     let mut words = Vec::from_elem(alloc, 0u64, TABLE_WORDS + CELL_WORDS * cells as usize)?;
     let row = words.as_mut_slice();

@@ -191,4 +191,6 @@ pub struct View<B> {
     pub notes: [Note; 0],
     /// The records that its steps took out of home, the last first, each as it lay there.
     pub records: Items<Rec<B>>,
+    /// The records that its steps put home, the last first, each as it lay in its slot.
+    pub put_home: Items<Rec<B>>,
 }

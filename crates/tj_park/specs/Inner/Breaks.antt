@@ -49,4 +49,5 @@ module _ {B : Type 0} where
     pub idle : HasNothingToCome w
     pub alarms : AlarmsLeave 0 w
     pub within : AreAmong left promises
+    pub put_home : w.put_home ≡ v.put_home
     pub entries : All (λ (c : CellId). IsIn c left ⊎ HasSeen w.filled c.0 entry.Broken) promises

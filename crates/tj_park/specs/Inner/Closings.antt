@@ -1,10 +1,9 @@
 -- The closing of the result of a task that ends, after its promises are broken, and its record then.
-use Rattle.std.specs.Prelude.{◌≡◌, [], drop, Bool, ℕ, Option, Some, None}
+use Rattle.std.specs.Prelude.{◌≡◌, [], Bool, ℕ, Option, Some, None}
 use Rattle.tj_body.specs.Points.{IsIn}
 use Rattle.tj_body.specs.Programs.{Program}
 use Rattle.tj_body.specs.declared.point.Close.{Close}
 use Rattle.tj_record.specs.declared.record.Finish.{Finish}
-use Rattle.tj_record.specs.declared.record.Rec.{Rec}
 use Rattle.tj_words.specs.declared.view.About.{About}
 use Rattle.tj_words.specs.declared.view.View.{View}
 use Rattle.tj_words.specs.SeatViews.KnownEntries.{IsToBecome}
@@ -18,10 +17,6 @@ use Rattle.tj_park.specs.Endings.{result_of}
 use Rattle.tj_park.specs.Inner.Breaks.{OwnsStill}
 
 module _ {B : Type 0} where
-  -- the record of a task that has ended: it owns nothing, and owes what it owned beside its result
-  abbrev pub ended_record : Rec B → Rec B
-  ended_record r = record r { owned = []; owed = drop 1 r.owned }
-
   -- the seat may close the result of t, which owns nothing else, by this ending
   pub record MayCloseResult (program : Bool → B → Program B) (t : ℕ) (finish : Option Finish) (v : View B) : Type 0
     where

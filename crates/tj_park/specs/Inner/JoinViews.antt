@@ -49,6 +49,7 @@ module _ {B : Type 0} where
     pub plain_loads : w.plain_loads ≡ v.plain_loads
     pub once_loads : w.once_loads ≡ v.once_loads
     pub records : w.records ≡ v.records
+    pub put_home : w.put_home ≡ v.put_home
 
   -- the push was made; or the head of q was found shut, so something has become of q, and of the push what was stored
   -- last into NEXT alone has changed
@@ -82,3 +83,4 @@ module _ {B : Type 0} where
     pub taken : HasTaken program t r w
     pub waited : WaitsFor r q
     pub records : w.records ≡ r ∷ v.records
+    pub put_home : w.put_home ≡ v.put_home

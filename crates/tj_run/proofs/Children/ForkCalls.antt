@@ -169,7 +169,7 @@ module _ {B : Type 0} {program : Bool → B → Program B} {laid : Laid B} {r : 
       (may_release program laid r b pass handed me f.runs f.asked f.law f.tell left h.keeps f.things f.starts c h.born
       h.made))
 
-  module _ (s : SeatMe B) (slots : SlotsOf B) (released : s ≡ (released_child c.0 u, rest slots))
+  module _ {x : Rec B} (s : SeatMe B) (slots : SlotsOf B) (released : s ≡ (released_child c.0 x u, rest slots))
       (its_slot : slots ≡ (c.0, None) ∷ me.1) where
     released_about : s.0.about ≡ me.0.about
     released_about = ap (λ (z : SeatMe B). z.0.about) released ∙ forks_about
@@ -185,9 +185,9 @@ module _ {B : Type 0} {program : Bool → B → Program B} {laid : Laid B} {r : 
     pub forks_go : Goes program laid next.Runs (with_child c left r) me.0 s
     forks_go = let f = h.forking in
         subst (λ (z : SeatMe B). Goes program laid next.Runs (with_child c left r) me.0 z)
-        (sym (released ∙ (λ i. (released_child c.0 u, rest (its_slot i)))))
+        (sym (released ∙ (λ i. (released_child c.0 x u, rest (its_slot i)))))
         (fork_goes program laid r b pass handed me f.runs f.asked f.law f.tell left h.keeps f.things f.starts c h.born
-        h.made (released_child c.0 u) (ap (released_child c.0) gave_so))
+        h.made x (released_child c.0 x u) (ap (released_child c.0 x) gave_so))
 
     -- the record is noted
     pub forks_goes : (res : Result Next Why) (q : Rec B) → IfOk res (λ n. n ≡ next.Runs)

@@ -353,92 +353,93 @@ module _ {B : Type 0} (program : Bool → B → Program B) (laid : Laid B) (r : 
         pub may_release : MayReleaseChild program c.0 child (gave_each r.cell.0 promises c.0 w)
         may_release = subst (MayReleaseChild program c.0 child) (sym now_is) may_release_now
 
-        -- the seat after it
-        abbrev after : View B
-        after = released_child c.0 now
+        -- the seat after it, by this record
+        module _ (sent : Rec B) where
+          abbrev after : View B
+          after = released_child c.0 sent now
 
-        abbrev q : Rec B
-        q = with_child c left r
+          abbrev q : Rec B
+          q = with_child c left r
 
-        tasks_after : after.tasks
-            ≡ second ∷ []
-        tasks_after =
-            let_go_first c.0 first
-            (second ∷ []) refl
-            ∙ let_go_other c.0 second []
-            (λ e. other (sym runs.task ∙ e))
+          tasks_after : after.tasks
+              ≡ second ∷ []
+          tasks_after =
+              let_go_first c.0 first
+              (second ∷ []) refl
+              ∙ let_go_other c.0 second []
+              (λ e. other (sym runs.task ∙ e))
 
-        left_owned : numbers left ≡ without_each promises runs.custody.owned
-        left_owned = rest_is.2 ∙ sym given_each.1
+          left_owned : numbers left ≡ without_each promises runs.custody.owned
+          left_owned = rest_is.2 ∙ sym given_each.1
 
-        runs_after : RunsTask laid q (after, me.1)
-        runs_after = let n = new_worker program laid r x me runs asked sort.Task c.0 w m in let k = runs.has.knows in
-            record {
-              worker = workers_same laid w after n n.lot n.tokens;
-              custody = second;
-              tasks = tasks_after;
-              slots = runs.slots;
-              task = runs.task;
-              runs = tt;
-              out = runs.out;
-              has = record {
-                cell = refl;
-                owned = left_owned;
-                made = (let a = runs.has.made in omega arith);
-                knows = cells_known w.known q (known_then r.cell.0 (task_known me.0.known r k))
-                    (known_more w.known (λ (h : Held). h.cell.0) r.held (record { cell = c; sort = sort.Task })
-                    (λ y i. known_then y (held_known me.0.known r k y i)) new_known)
-                    (λ y i. known_then y (owned_known me.0.known r k y (subst (IsIn y) (sym runs.has.owned)
-                    (each_among promises runs.custody.owned y runs.owned_apart (subst (IsIn y) left_owned i)))))
-                    (λ y i. known_then y (owed_known me.0.known r k y i))
-                    (λ y i. known_then y (ending_known me.0.known r k y i));
-              };
-              result = each_leaves r.cell.0 promises runs.custody.owned given_each.0 runs.result;
-              owned_apart = each_apart promises runs.custody.owned runs.owned_apart;
-            }
+          runs_after : RunsTask laid q (after, me.1)
+          runs_after = let n = new_worker program laid r x me runs asked sort.Task c.0 w m in let k = runs.has.knows in
+              record {
+                worker = workers_same laid w after n n.lot n.tokens;
+                custody = second;
+                tasks = tasks_after;
+                slots = runs.slots;
+                task = runs.task;
+                runs = tt;
+                out = runs.out;
+                has = record {
+                  cell = refl;
+                  owned = left_owned;
+                  made = (let a = runs.has.made in omega arith);
+                  knows = cells_known w.known q (known_then r.cell.0 (task_known me.0.known r k))
+                      (known_more w.known (λ (h : Held). h.cell.0) r.held (record { cell = c; sort = sort.Task })
+                      (λ y i. known_then y (held_known me.0.known r k y i)) new_known)
+                      (λ y i. known_then y (owned_known me.0.known r k y (subst (IsIn y) (sym runs.has.owned)
+                      (each_among promises runs.custody.owned y runs.owned_apart (subst (IsIn y) left_owned i)))))
+                      (λ y i. known_then y (owed_known me.0.known r k y i))
+                      (λ y i. known_then y (ending_known me.0.known r k y i));
+                };
+                result = each_leaves r.cell.0 promises runs.custody.owned given_each.0 runs.result;
+                owned_apart = each_apart promises runs.custody.owned runs.owned_apart;
+              }
 
-        kids_stand : (k : Task B) → IsIn k (p.children ++ kid ∷ [])
-            → IsIn k p.children ⊎ HasCell w.born k.name (λ d y. y.sort ≡ sort.Task)
-        kids_stand k i = ⊎_elim (λ j. inl j) (λ j. inr (⊎_elim
-            (λ e. (c.0, to_task (next_name p), new, ap (λ (z : Task B). z.name) (sym e), refl)) (λ n. absurd n) j))
-            (in_either k p.children (kid ∷ []) i)
+          kids_stand : (k : Task B) → IsIn k (p.children ++ kid ∷ [])
+              → IsIn k p.children ⊎ HasCell w.born k.name (λ d y. y.sort ≡ sort.Task)
+          kids_stand k i = ⊎_elim (λ j. inl j) (λ j. inr (⊎_elim
+              (λ e. (c.0, to_task (next_name p), new, ap (λ (z : Task B). z.name) (sym e), refl)) (λ n. absurd n) j))
+              (in_either k p.children (kid ∷ []) i)
 
-        more_after : KnowsMore me.0 after
-        more_after = more_on me.0 w after more (more_same w after ([], refl))
+          more_after : KnowsMore me.0 after
+          more_after = more_on me.0 w after more (more_same w after ([], refl))
 
-        running_after : IsRunning P after q
-        running_after = let t = tells_then P me.0 w more r x asked in record {
-          rooted = asked.rooted;
-          point = forked;
-          at_stage = ap (λ i. stage.Answered (answer.Local i))
-              (sym (pairs_length (HeldSays w.born) r.held p.references t.held));
-          unfinished = asked.unfinished;
-          tells = record {
-            of = t.of;
-            body = t.body;
-            held = pairs_snoc (HeldSays w.born) r.held p.references (record { cell = c; sort = sort.Task })
-                (to_task (next_name p)) t.held (new, refl);
-            owned_cells = pairs_map (HasName me.0.born) (HasName w.born) (name_then P me.0 w more r x asked) left
-                (p.name ∷ map nm rest)
-                (beside_first laid.cells me.0.born runs.worker.cells r.cell.0 (to_task p.name) asked.tells.of left rest
-                rest_is.2
-                (λ d i. others_there P laid.cells me.0 runs.worker.cells r x asked d
-                (handed_among others (map numbered given) rest d rest_is.1 i)));
-            made = (let a = t.made in omega arith);
-            prints = t.prints;
-            owed = t.owed;
-          };
-          stands = stands_next P after asked.point forked (stands_then P me.0 after more_after r x asked) forked_rounds
-              kids_stand (λ y j. inl j)
-              (λ y e j. inl j);
-        }
+          running_after : IsRunning P after q
+          running_after = let t = tells_then P me.0 w more r x asked in record {
+            rooted = asked.rooted;
+            point = forked;
+            at_stage = ap (λ i. stage.Answered (answer.Local i))
+                (sym (pairs_length (HeldSays w.born) r.held p.references t.held));
+            unfinished = asked.unfinished;
+            tells = record {
+              of = t.of;
+              body = t.body;
+              held = pairs_snoc (HeldSays w.born) r.held p.references (record { cell = c; sort = sort.Task })
+                  (to_task (next_name p)) t.held (new, refl);
+              owned_cells = pairs_map (HasName me.0.born) (HasName w.born) (name_then P me.0 w more r x asked) left
+                  (p.name ∷ map nm rest)
+                  (beside_first laid.cells me.0.born runs.worker.cells r.cell.0 (to_task p.name) asked.tells.of left
+                  rest rest_is.2
+                  (λ d i. others_there P laid.cells me.0 runs.worker.cells r x asked d
+                  (handed_among others (map numbered given) rest d rest_is.1 i)));
+              made = (let a = t.made in omega arith);
+              prints = t.prints;
+              owed = t.owed;
+            };
+            stands = stands_next P after asked.point forked (stands_then P me.0 after more_after r x asked)
+                forked_rounds kids_stand (λ y j. inl j)
+                (λ y e j. inl j);
+          }
 
-        -- and so the task goes on
-        pub fork_goes : (u : View B) → u ≡ released_child c.0 (gave_each r.cell.0 promises c.0 w)
-            → Goes program laid next.Runs q me.0 (u, me.1)
-        fork_goes u e = subst (λ (z : View B). Goes program laid next.Runs q me.0 (z, me.1))
-            (sym (e ∙ ap (released_child c.0) now_is))
-            (record { knows = more_after; runs = runs_after; goes_on = running_after })
+          -- and so the task goes on
+          pub fork_goes : (u : View B) → u ≡ released_child c.0 sent (gave_each r.cell.0 promises c.0 w)
+              → Goes program laid next.Runs q me.0 (u, me.1)
+          fork_goes u e = subst (λ (z : View B). Goes program laid next.Runs q me.0 (z, me.1))
+              (sym (e ∙ ap (released_child c.0 sent) now_is))
+              (record { knows = more_after; runs = runs_after; goes_on = running_after })
 
         -- the seat is of the same table all the while
         pub fork_about : (u : View B) → u ≡ gave_each r.cell.0 promises c.0 w → u.about ≡ me.0.about

@@ -42,9 +42,9 @@ module _ {B : Type 0} {program : Bool → B → Program B} {laid : Laid B} {r : 
     may_be_shelved = here (λ z p. MayShelve program z.cell.0 z m.0) (shelve_then before h.looked h.read
         h.looked_slots wait m h.slots alarms)
 
-    pub leaves_shelved : (n : SeatMe B) → n ≡ (shelved r.cell.0 m.0, rest m.1) → IsLeft laid old.0 n
-    leaves_shelved n e = left_shelved before h.looked h.read h.looked_slots wait m h.slots alarms n
-        (there (λ z p. n ≡ (shelved z.cell.0 m.0, rest m.1)) e)
+    pub leaves_shelved : {y : Rec B} (n : SeatMe B) → n ≡ (shelved r.cell.0 y m.0, rest m.1) → IsLeft laid old.0 n
+    leaves_shelved {y} n e = left_shelved before h.looked h.read h.looked_slots wait m h.slots alarms n
+        (there (λ z p. n ≡ (shelved z.cell.0 y m.0, rest m.1)) e)
 
   -- a task whose walk has ended is parked, and has left then, or comes back
   module _ (quiet : IsQuiet d) where

@@ -269,20 +269,20 @@ module _ {B : Type 0} {program : Bool → B → Program B} {laid : Laid B} {r : 
       })
 
       -- it has left then
-      pub shelved_left : (m3 : SeatMe B) → m3 ≡ (shelved t m2.0, rest m2.1) → IsLeft laid me.0 m3
-      shelved_left m3 e = subst (IsLeft laid me.0) (sym gone) (record {
-        knows = more_same me.0 (shelved t (since alarms b.steps 1)) ([], refl);
+      pub shelved_left : {x : Rec B} (m3 : SeatMe B) → m3 ≡ (shelved t x m2.0, rest m2.1) → IsLeft laid me.0 m3
+      shelved_left {x} m3 e = subst (IsLeft laid me.0) (sym gone) (record {
+        knows = more_same me.0 (shelved t x (since alarms b.steps 1)) ([], refl);
         free = record {
-          worker = workers_same laid me.0 (shelved t (since alarms b.steps 1)) runs.worker runs.worker.lot
+          worker = workers_same laid me.0 (shelved t x (since alarms b.steps 1)) runs.worker runs.worker.lot
               (let z = runs.worker.tokens in omega arith);
           tasks = left_since alarms b.steps 1;
           slots = refl;
         };
       })
         where
-          gone : m3 ≡ (shelved t (since alarms b.steps 1), [])
-          gone = e ∙ (ap (λ (v : View B). (shelved t v, rest m2.1)) b.view
-              ∙ ap (λ l. (shelved t (since alarms b.steps 1), l)) (no_slots m2 same))
+          gone : m3 ≡ (shelved t x (since alarms b.steps 1), [])
+          gone = e ∙ (ap (λ (v : View B). (shelved t x v, rest m2.1)) b.view
+              ∙ ap (λ l. (shelved t x (since alarms b.steps 1), l)) (no_slots m2 same))
 
     -- a task whose walk has ended is parked
     module _ (d : Verdict) (quiet : IsQuiet d) (b : Blocked d t cell.cell.0 wait me.0 m2.0) where
@@ -386,8 +386,8 @@ module _ {B : Type 0} {program : Bool → B → Program B} {laid : Laid B} {r : 
         → MayShelve program r.cell.0 (waits_at k spare r) m2.0
     shelve_then = may_shelve then wait m2 slots
 
-    pub left_shelved : Blocked verdict.Alarm r.cell.0 q wait m1.0 m2.0 → (m3 : SeatMe B)
-        → m3 ≡ (shelved r.cell.0 m2.0, rest m2.1)
+    pub left_shelved : {x : Rec B} → Blocked verdict.Alarm r.cell.0 q wait m1.0 m2.0 → (m3 : SeatMe B)
+        → m3 ≡ (shelved r.cell.0 x m2.0, rest m2.1)
         → IsLeft laid me.0 m3
     left_shelved b m3 e = left_on laid me.0 m1.0 more m3
         (shelved_left then wait m2 slots b m3 e)

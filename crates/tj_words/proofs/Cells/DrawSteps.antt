@@ -18,7 +18,7 @@ use Rattle.tj_words.proofs.Waiters.LiveSteps.{backing_running, alarms_else}
 use Rattle.tj_words.proofs.Holders.NotedEntries.{noted_here, noted_else}
 use Rattle.tj_words.proofs.Cells.CellNames.{cells_more, next_new, refused_full}
 use Rattle.tj_words.proofs.Waiters.StopSteps.{law_refuses}
-use Rattle.tj_words.proofs.Cells.DrawnTasks.{slots_after}
+use Rattle.tj_words.proofs.Cells.DrawnTasks.{slots_after, homes_after}
 use Rattle.tj_words.proofs.Cells.DrawnCells.{law_drawn, drawn_contents, draws, new_else, new_here, maker_now}
 use Rattle.tj_words.proofs.Waiters.Backings.{backing_runs}
 use Rattle.tj_base.specs.declared.cell.Sort.TheVariants as sort
@@ -160,11 +160,16 @@ module _ {B : Type 0} (program : Bool → B → Program B) (key : Key B) (keeps 
             at_longer r.law.born (drawn_next t o v ∷ []) d b.0
                 (begins_at v.born r.law.born (knows_so program key s r id v at).begins d b.0 b.1),
           );
-        } _ (draw_path program key s r id t o v at may left w.born
+        } (λ e i. homes_after r.law.custody room o e.task ∙ r.pushed id v at e i)
+        (λ j u other here e i. homes_after r.law.custody room o e.task) _
+        (draw_path program key s r id t o v at may left w.born
         ∙ ap (λ z. after_draw program key s r id t o v at may left (r.law.born ++ z ∷ [])) next_same)
         (law_drawn r.law id t o v may tasks dues free left keeps (mine_now (λ u. u.known)) (mine_now (λ u. u.born))
         (mine_now (λ u. u.wrote)) (mine_now (λ u. u.filled)) named)
       where
+        room : drawn_in key.cells x < key.cells
+        room = omega (arith, left)
+
         many : (p : Sort) → length (slots_after n p s.homes) ≡ length s.homes
         many sort.Promise = refl
         many sort.Task = length-set s.homes n none
@@ -206,7 +211,7 @@ module _ {B : Type 0} (program : Bool → B → Program B) (key : Key B) (keeps 
           };
           backing = record { wakes = q.backing.wakes; tags = q.backing.tags; alarms = q.backing.alarms };
           known_born = q.known_born;
-        } _ (λ j. record {
+        } (r.pushed id v at) (λ j u other here e i. refl) _ (λ j. record {
           words = record (words_say s.words) { count = suc (word s.words count_at) };
           slots = s.homes;
           seats = record (seats_same s.views id v at j) {

@@ -418,7 +418,7 @@ module _ {B : Type 0} (program : Bool → B → Program B) (key : Key B) (s : St
   -- the first store of an owner is one of the rule
   pub give_stores : c < key.cells → o < key.cells → Stores program key s id (own_at c) (suc o) w
   give_stores lc lo = store_word program key s id (Own c) (suc o) w (let e = r.all_words in omega arith)
-      (omega arith) seat after_give (give_path (suc o) refl)
+      (omega arith) seat (r.pushed id v at) after_give (give_path (suc o) refl)
       (law_given r.law id m has tasks dues (at_map (λ (u : View B). u.known) s.views id v at))
 
   -- and it shows nothing

@@ -108,7 +108,8 @@ module _ {B : Type 0} {program : Bool → B → Program B} {key : Key B} {s : St
     close_stores : EventKeepsFacts → c < key.cells → Stores program key s id (own_at c) 0 (closed_cell m.task c v)
     close_stores events l = let w = closed_cell m.task c v in
         store_word program key s id (Own c) 0 w (let e = r.all_words in omega arith) (omega arith)
-        (owner_seat w.steps w.tasks w.dues m.owner (gave_backing w.steps w.dues m.owner)) _ (close_path 0 refl)
+        (owner_seat w.steps w.tasks w.dues m.owner (gave_backing w.steps w.dues m.owner)) (r.pushed id v at) _
+        (close_path 0 refl)
         (law_closed r.law (owner_gives m.owner) last_here v.dues dues events)
 
   -- the store of a child
@@ -177,7 +178,7 @@ module _ {B : Type 0} {program : Bool → B → Program B} {key : Key B} {s : St
     hand_stores events l = let w = handed_promise m.task c u v in
         let u_there = (list_owned r.law id u m.child (v.tasks, tasks, m.child_held) u m.child_result).0.0 in
         store_word program key s id (Own c) (suc u) w (let e = r.all_words in omega arith) (omega arith)
-        (owner_seat w.steps w.tasks w.dues m.owner handed_backing) _ (hand_path (suc u) refl)
+        (owner_seat w.steps w.tasks w.dues m.owner handed_backing) (r.pushed id v at) _ (hand_path (suc u) refl)
         (law_handed r.law gives_child v.dues dues events)
 
   -- a cell has one owner among the tasks of a seat

@@ -3,12 +3,14 @@ use Rattle.tj_words.proofs.Prelude.{Bool, Contents, Custody, IsIn, Key, Law, May
 use Rattle.tj_words.proofs.Prelude.{SeatMe, SeatsHave, Some, State, View, [], ap, arith, contents_of, drawn_in, ended}
 use Rattle.tj_words.proofs.Prelude.{get_elem?, hand_of, held_of, home_of, is_task, let_go, live_part, numbers, owned_by}
 use Rattle.tj_words.proofs.Prelude.{owner, phase_at, phase_in, phase_of, phase_word, put, refl, set, some, stage_there}
-use Rattle.tj_words.proofs.Prelude.{subst, suc, sym, true, wait_in, word, ℕ, ◌<◌, ◌∙◌, ◌≡◌}
+use Rattle.tj_words.proofs.Prelude.{subst, suc, sym, true, wait_in, word, List, ℕ, ◌<◌, ◌∙◌, ◌≡◌}
 use Rattle.tj_words.proofs.Lemmas.{IsHeldWith, IsQuietStep, StoresWith, core_of, custody, does_shown, facts_quiet}
 use Rattle.tj_words.proofs.Lemmas.{held_drawn, held_here, left_seat, left_stores, none_some, none_unless, owner_out}
 use Rattle.tj_words.proofs.Lemmas.{parts_of, seats_same, stage_held, stored_with}
 use Rattle.tj_events.specs.CoreState.{IsTask}
 use Rattle.tj_words.proofs.Waiters.ChainFacts.{IsNotParked, held_free}
+use Rattle.tj_words.proofs.Waiters.PushedRecords.{laid_as_put, laid_leaves}
+use Rattle.tj_words.proofs.Prelude.{◌∷◌}
 use Rattle.tj_words.proofs.Waiters.ChainPhases.{chains_turn}
 use Rattle.tj_words.proofs.Waiters.LiveSteps.{count_turned, backing_token}
 use Rattle.tj_words.proofs.Holders.LaidRecords.{Lays, as_many, departs_laid, fits_then, laid_slots, lays_held, meant}
@@ -77,9 +79,10 @@ module _ {B : Type 0} {program : Bool → B → Program B} {key : Key B} {s : St
       ∙ (λ j. stage_there t sort.Task (sym end_closed j) phase.Running (held_of x t) (home_of x t)))
 
   -- what the store leaves
-  pub end_path : (word : ℕ) → phase_in word ≡ phase.Ended
-      → stored_with s id (table_word.Phase t) word (laid_slots r id at lays) (ended t v) ≡ after_end
-  end_path word is j = record {
+  pub end_path : (records : List (Rec B)) (word : ℕ) → phase_in word ≡ phase.Ended
+      → stored_with s id (table_word.Phase t) word (laid_slots r id at lays) (record (ended t v) { put_home = records })
+      ≡ after_end
+  end_path records word is j = record {
     words = record x.words { phase = put x.words.phase t (is j) };
     slots = laid_slots r id at lays;
     seats = record (seats_same s.views id v at j) {
@@ -88,20 +91,28 @@ module _ {B : Type 0} {program : Bool → B → Program B} {key : Key B} {s : St
     };
   }
 
+  free : IsNotParked (x.words.phase t)
+  free = subst IsNotParked (sym (custody r.law id t h.custody (lays_held r id at lays)).does) (held_free h.custody.does)
+
   end_law : t < key.cells → Law (program key.strict key.root.value) key.cells after_end
   end_law inside = law_task r.law (leave r.law id t departs_over) x.words beside
       (leave_owned r.law id t departs_over) r.law.names.knows
       (chains_turn r.law.chains t phase.Ended
-      (subst IsNotParked (sym (custody r.law id t h.custody (lays_held r id at lays)).does) (held_free h.custody.does))
+      free
       (λ p y. let e = ap wait_in y.1 in cc))
       (count_turned r.law.live_count t phase.Ended id v.tokens (suc v.tokens) inside (tokens_at s.views id at)
       (let e = ap live_part runs in omega arith))
       (fits_then r id at lays phase.Ended ((h.finish, h.finished), h.owns_none)) (meant r id at lays)
       (facts_quiet r.law end_quiet)
 
-  pub end_stores : t < key.cells → (word : ℕ) → phase_in word ≡ phase.Ended → word ≡ phase_word phase.Ended
-      → StoresWith program key s (set s.homes t (some (Some h.record_of))) id (phase_at t) word (ended t v)
-  end_stores inside word is from = left_stores r id t at inside phase.Ended word is from refl (laid_slots r id at lays)
-      (as_many r id at lays) (suc v.tokens)
+  pub end_stores : t < key.cells → (records : List (Rec B)) → records ≡ h.record_of ∷ v.put_home → (word : ℕ)
+      → phase_in word ≡ phase.Ended
+      → word ≡ phase_word phase.Ended
+      → StoresWith program key s (set s.homes t (some (Some h.record_of))) id (phase_at t) word
+      (record (ended t v) { put_home = records })
+  end_stores inside records puts word is from = left_stores r id t at inside phase.Ended word is from refl
+      (laid_slots r id at lays) (as_many r id at lays) (suc v.tokens) records
       (left_seat r id t at (suc v.tokens) h.custody h.held h.room (backing_token (ended t v) (omega arith)))
-      (end_path word is) (end_law inside)
+      (laid_as_put r id at t h.record_of h.puts.cell free records puts)
+      (laid_leaves r id at t h.record_of h.puts.cell free)
+      (end_path records word is) (end_law inside)

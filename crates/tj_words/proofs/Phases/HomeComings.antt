@@ -10,6 +10,9 @@ use Rattle.tj_words.proofs.Lemmas.{held_listed, hold_here, holder_seat, made_hel
 use Rattle.tj_words.proofs.Lemmas.{owned_held_by, parts_of, put_is, put_self, seats_same, store_word_with, stored_with}
 use Rattle.tj_words.specs.Calls.LiveViews.{LaysChild, now_home}
 use Rattle.tj_words.proofs.Waiters.LiveStores.{live_some}
+use Rattle.tj_words.proofs.Waiters.ChainFacts.{IsNotParked, held_free}
+use Rattle.tj_words.proofs.Waiters.PushedRecords.{laid_as_put, laid_leaves}
+use Rattle.tj_words.proofs.Prelude.{◌∷◌}
 use Rattle.tj_words.proofs.Waiters.LiveSteps.{count_up, backed_lively, backing_token}
 use Rattle.tj_words.proofs.Holders.HeldChanges.{found_held, held_task, hold_move}
 use Rattle.tj_words.proofs.Holders.LaidRecords.{Lays, as_many, cells_there, fits, free, laid_slots, lays_held, lies}
@@ -56,6 +59,9 @@ module _ {B : Type 0} {program : Bool → B → Program B} {key : Key B} {s : St
 
   was : x.words.phase t ≡ phase.Unborn
   was = (custody r.law id t k has).does ∙ ap phase_of h.unborn
+
+  unparked : IsNotParked (x.words.phase t)
+  unparked = subst IsNotParked (sym (custody r.law id t k has).does) (held_free k.does)
 
   apart : (u : ℕ) → u ≢ t → get_elem? slots u ≡ get_elem? s.homes u
   apart u m = set_else s.homes t u (some (Some c)) m
@@ -106,9 +112,10 @@ module _ {B : Type 0} {program : Bool → B → Program B} {key : Key B} {s : St
         (sym (held_here r.law id t k has) j) (home_of x t)))
 
     -- what the step leaves, whatever it stores
-    pub home_path : stored_with s id Live live slots (came_home t c (with_tokens (suc v.tokens) v))
+    pub home_path : (put : List (Rec B))
+        → stored_with s id Live live slots (record (came_home t c (with_tokens (suc v.tokens) v)) { put_home = put })
         ≡ after_home
-    home_path j = record {
+    home_path put j = record {
       words = record (words_say s.words) { live = live };
       slots = slots;
       seats = record (seats_same s.views id v at j) {
@@ -130,12 +137,14 @@ module _ {B : Type 0} {program : Bool → B → Program B} {key : Key B} {s : St
 
   pub home_stores : IsBacked v → v.tokens < v.lot
       → StoresWith program key s (set s.homes t (some (Some c))) id live_at (suc (word s.words live_at))
-      (came_home t c (with_tokens (suc v.tokens) v))
+      (record (came_home t c (with_tokens (suc v.tokens) v)) { put_home = c ∷ v.put_home })
   home_stores b room = let n = suc (word s.words live_at) in
       let w : View B = record v { steps = suc v.steps; tokens = suc v.tokens; tasks = new } in
-      store_word_with program key s id Live n slots (came_home t c (with_tokens (suc v.tokens) v))
+      store_word_with program key s id Live n slots
+      (record (came_home t c (with_tokens (suc v.tokens) v)) { put_home = c ∷ v.put_home })
       (let e = r.all_words in omega arith) (as_many r id at lays) tt
       (subst (IsSeat key) (ap (λ l. record v { steps = suc v.steps; tokens = suc v.tokens; tasks = l })
       (sym (noted_is v.tasks t k (now_home c) h.held)))
       (holder_seat key v t k h.held (r.seats id v at) (suc v.tokens) new v.pushes v.dues room
-      (backing_token w (omega arith)))) (after_home n) (home_path n) (home_law b)
+      (backing_token w (omega arith)))) (laid_as_put r id at t c h.puts.cell unparked (c ∷ v.put_home) refl)
+      (laid_leaves r id at t c h.puts.cell unparked) (after_home n) (home_path n (c ∷ v.put_home)) (home_law b)

@@ -226,7 +226,7 @@ module _ {B : Type 0} {program : Bool → B → Program B} {key : Key B} {s : St
   mark_stores l = store_word program key s id (table_word.Phase c) (phase_word phase.Promise) (marked_promise v)
       (let e = r.all_words in omega arith)
       (record { code = refl; waits = λ d way w e. let z : phase.Promise ≡ phase.Waiting d way w = e in absurd (cc) })
-      (r.seats id v at) after_mark (mark_path (phase_word phase.Promise) refl)
+      (r.seats id v at) (r.pushed id v at) after_mark (mark_path (phase_word phase.Promise) refl)
       (law_marked r.law id h has m.promise v.tokens (at_map (λ (u : View B). u.tokens) s.views id v at))
 
 pub mark_allowed : {B : Type 0} (program : Bool → B → Program B) (key : Key B)

@@ -3,10 +3,11 @@ use Rattle.tj_words.proofs.Prelude.{Bool, CellId, Contents, Custody, EventKeepsF
 use Rattle.tj_words.proofs.Prelude.{Option, Phase, Program, Rec, Rule, SeatMe, SeatsHave, Some, State, View, Walk, Way}
 use Rattle.tj_words.proofs.Prelude.{ap, arith, at_map, cell, contents_of, get_elem?, let_go, live_part, new_push}
 use Rattle.tj_words.proofs.Prelude.{phase_at, phase_in, phase_of, put, refl, set, some, subst, suc, ℕ, ◌<◌, ◌∙◌, ◌∷◌}
-use Rattle.tj_words.proofs.Prelude.{◌≡◌}
+use Rattle.tj_words.proofs.Prelude.{List, ◌≡◌}
 use Rattle.tj_words.proofs.Lemmas.{IsEventStep, StoresWith, custody, facts_after, phase_stores, seats_same, stored_with}
 use Rattle.tj_words.specs.Calls.WaitViews.{MayPark, parked}
-use Rattle.tj_words.proofs.Waiters.ChainFacts.{held_free}
+use Rattle.tj_words.proofs.Waiters.ChainFacts.{IsNotParked, held_free}
+use Rattle.tj_words.proofs.Waiters.PushedRecords.{laid_leaves, parked_as_put}
 use Rattle.tj_words.proofs.Waiters.ChainPhases.{chains_park}
 use Rattle.tj_words.proofs.Waiters.LiveSteps.{count_turned}
 use Rattle.tj_words.proofs.Events.WalkEvents.{settle_shown}
@@ -71,9 +72,11 @@ module _ {B : Type 0} {program : Bool → B → Program B} {key : Key B} {s : St
       )
 
   -- what the store leaves
-  pub park_path : (word : ℕ) → phase_in word ≡ q
-      → stored_with s id (table_word.Phase t) word (laid_slots r id at lays) (parked t p way v) ≡ after_park
-  park_path word is j = record {
+  pub park_path : (records : List (Rec B)) (word : ℕ) → phase_in word ≡ q
+      → stored_with s id (table_word.Phase t) word (laid_slots r id at lays)
+      (record (parked t p way v) { put_home = records })
+      ≡ after_park
+  park_path records word is j = record {
     words = record x.words { phase = put x.words.phase t (is j) };
     slots = laid_slots r id at lays;
     seats = record (seats_same s.views id v at j) {
@@ -83,20 +86,28 @@ module _ {B : Type 0} {program : Bool → B → Program B} {key : Key B} {s : St
     };
   }
 
+  free : IsNotParked (x.words.phase t)
+  free c y = held_free k.does c (subst (λ z. IsParkedOn z c) (custody r.law id t k (lays_held r id at lays)).does y)
+
   park_law : t < key.cells → EventKeepsFacts → Law (program key.strict key.root.value) key.cells after_park
   park_law inside kept = law_task r.law (leave r.law id t departs) x.words beside (leave_owned r.law id t departs)
       r.law.names.knows
       (chains_park r.law.chains t q id p way v.pushes (at_map (λ (u : View B). u.pushes) s.views id v at)
-      (λ c y. held_free k.does c (subst (λ z. IsParkedOn z c) (custody r.law id t k (lays_held r id at lays)).does y))
+      free
       refl)
       (count_turned r.law.live_count t q id v.tokens (suc v.tokens) inside (tokens_at s.views id at)
       (let e = ap live_part was in omega arith))
       (fits_then r id at lays q (h.unfinished, h.waits)) (meant r id at lays)
       (facts_after kept park_event.0 r.law.facts)
 
-  pub parked_stores : t < key.cells → EventKeepsFacts → (word : ℕ) → IsPhaseWord key.cells word → phase_in word ≡ q
-      → StoresWith program key s (set s.homes t (some (Some h.record_of))) id (phase_at t) word (parked t p way v)
-  parked_stores inside kept word code is = phase_stores r id t inside (laid_slots r id at lays)
-      (as_many r id at lays) word code (parked t p way v)
-      (more_seat (parked t p way v) h.walks (r.seats id v at) refl) after_park
-      (park_path word is) (park_law inside kept)
+  pub parked_stores : t < key.cells → EventKeepsFacts → (records : List (Rec B)) → records ≡ h.record_of ∷ v.put_home
+      → (word : ℕ) → IsPhaseWord key.cells word
+      → phase_in word ≡ q
+      → StoresWith program key s (set s.homes t (some (Some h.record_of))) id (phase_at t) word
+      (record (parked t p way v) { put_home = records })
+  parked_stores inside kept records puts word code is = phase_stores r id t inside (laid_slots r id at lays)
+      (as_many r id at lays) word code (record (parked t p way v) { put_home = records })
+      (more_seat (parked t p way v) h.walks (r.seats id v at) refl)
+      (parked_as_put r id at t h.record_of h.puts.cell free (let e = r.all_slots in omega arith) p way records puts)
+      (laid_leaves r id at t h.record_of h.puts.cell free) after_park
+      (park_path records word is) (park_law inside kept)

@@ -21,6 +21,10 @@ use Rattle.tj_words.specs.Calls.ExchangeViews.{Claims, GoesBack, Wakes, without_
 use Rattle.std.proofs.Common.{Option, arith, length, subst, length-set, ⊎_elim, drop}
 use Rattle.tj_words.specs.Calls.TakenRecords.{custody_of, took_record, TakesRecord}
 use Rattle.tj_words.proofs.Waiters.ChainFacts.{IsNotParked, ready_free, running_free}
+use Rattle.tj_words.specs.Calls.ExchangeViews.{TakesAsPut}
+use Rattle.tj_words.specs.LawParts.PushedRecords.{LieAsPut}
+use Rattle.tj_words.proofs.Stores.StoreSteps.{LeavesPushed}
+use Rattle.tj_words.proofs.Waiters.PushedRecords.{back_as_put, back_leaves, lay_as_put, taken_as_put, taken_leaves}
 use Rattle.tj_words.proofs.Waiters.ChainPhases.{chains_turn, chains_run, chains_ready}
 use Rattle.tj_words.proofs.Holders.HeldChanges.{let_go_in}
 use Rattle.tj_words.proofs.Holders.TaskMoves.{TaskMove, law_task, task_moved, task_moves}
@@ -58,6 +62,7 @@ module _ {B : Type 0} (program : Bool → B → Program B) (t : ℕ) (m m' : Sea
     claims = λ q. h;
     wakes = λ p way q. absurd (ready_free p (way, q));
     goes_back = λ p way q. absurd (ready_free p (way, q));
+    as_put = λ p way q. absurd (ready_free p (way, q));
   }
 
   wakes_swap : (p : ℕ) (way : Way) → Wakes way m m' → Swaps program t (parked_phase p way) phase.Ready m m'
@@ -65,15 +70,17 @@ module _ {B : Type 0} (program : Bool → B → Program B) (t : ℕ) (m m' : Sea
     claims = λ q. absurd (ready_free p (way, sym q));
     wakes = λ p' way' q z. subst (λ k. Wakes k m m') (same_park p p' way way' q).1 h;
     goes_back = λ p' way' q z. absurd (running_not (sym z));
+    as_put = λ p' way' q z. absurd (running_not (sym z));
   }
 
-  back_swap : (p : ℕ) (way : Way) → GoesBack program t p way m m'
+  back_swap : (p : ℕ) (way : Way) → GoesBack program t p way m m' → TakesAsPut program t m m'
       → Swaps program t (parked_phase p way) phase.Running m m'
-  back_swap p way h = record {
+  back_swap p way h taken = record {
     claims = λ q. absurd (ready_free p (way, sym q));
     wakes = λ p' way' q z. absurd (running_not z);
     goes_back = λ p' way' q z. let same = same_park p p' way way' q in
         subst (λ (k : ℕ × Way). GoesBack program t k.0 k.1 m m') (λ j. (same.0 j, same.1 j)) h;
+    as_put = λ p' way' q z. taken;
   }
 
 module _ {B : Type 0} {program : Bool → B → Program B} {key : Key B} {s : State (Option (Rec B)) (View B)}
@@ -294,14 +301,15 @@ module _ {B : Type 0} {program : Bool → B → Program B} {key : Key B} {s : St
 
     -- what it makes of the seat, whose view is w but for what it takes and learns
     took_acts : KnowsTable v → (w : View B) → w.tokens ≤ v.lot → w.cleared ≤ v.lot → (Holds HasAlarmed v → 0 < w.tokens)
+        → LieAsPut slots w.pushes v.put_home → LeavesPushed s slots id
         → Chains (tag_in x) x.words.head x.words.next (phases phase.Running) (set x.seats.pushes id w.pushes)
         x.seats.shuts x.seats.rests x.seats.closed x.seats.found
         → LiveCount key.cells x.words.live (phases phase.Running) (set x.seats.tokens id w.tokens) x.seats.rested
         → CoreFacts (core_shown key.cells law.born law.maker (after law.born more w))
         → (mine : SlotsOf B) (F : SeatMe B → Type 0) → F (took law.born more w c, (t, Some c) ∷ mine)
         → Acts program key s id (v, mine) (phase_at t) (phase_word phase.Running) F
-    took_acts table w fit room alarms chains live facts slots_of F f = acts_taking program key s r id (v, slots_of)
-        (phase_at t) (phase_word phase.Running) F view t (Some c) (slot_has s.homes t c l.kept.1.1)
+    took_acts table w fit room alarms as_put leaves chains live facts slots_of F f = acts_taking program key s r id
+        (v, slots_of) (phase_at t) (phase_word phase.Running) F view t (Some c) (slot_has s.homes t c l.kept.1.1)
         (store_word_with program key s id (table_word.Phase t) (phase_word phase.Running) slots view inside
         (length-set s.homes t none) record { code = refl; waits = λ d way q e. cc } (
         let q = r.seats id v at in record {
@@ -319,7 +327,8 @@ module _ {B : Type 0} {program : Bool → B → Program B} {key : Key B} {s : St
               (one_some a.1 k (sym (ap (held_in new) (sym z) ∙ a.2) ∙ held_now)) a.3)))
               (λ m. alarms (a.0, a.1, sym (held_same a.0 m) ∙ a.2, a.3)));
           known_born = λ d i. born_at P key.cells x law d (knows_more d i).0;
-        }) (after law.born more w) (takes_path law.born more w (phase_word phase.Running) refl c l.kept.1.1)
+        }) as_put leaves (after law.born more w)
+        (takes_path law.born more w (phase_word phase.Running) refl c l.kept.1.1)
         (law_task law taken x.words (beside law.born more w)
         ((λ j. owned_by (held_now j) (home_in slots t)) ∙ record_owned)
         (each_set (λ j l. AreThere n (hand_of x) l) x.seats.known id (record_cells c ++ v.known) law.names.knows
@@ -361,6 +370,8 @@ module _ {B : Type 0} {program : Bool → B → Program B} {key : Key B} {s : St
         (phase_word phase.Running) (Swaps program t phase.Ready phase.Running (v, slots_of))
     claim_acts table slots_of = took_acts claimable table v within.tokens_fit within.cleared_fit
         (r.seats id v at).backing.alarms
+        (taken_as_put r id at t (subst IsNotParked (sym stands) ready_free))
+        (taken_leaves r id at t (subst IsNotParked (sym stands) ready_free))
         (subst (λ z. Chains (tag_in x) x.words.head x.words.next (phases phase.Running) z x.seats.shuts
         x.seats.rests x.seats.closed x.seats.found) (sym (set_again x.seats.pushes id v.pushes (mine (λ u. u.pushes))))
         (chains_turn law.chains t phase.Running (subst IsNotParked (sym stands) ready_free) running_free))
@@ -488,11 +499,13 @@ module _ {B : Type 0} {program : Bool → B → Program B} {key : Key B} {s : St
           (Swaps program t (parked_phase p way) phase.Running (v, slots_of))
       back_acts table e in_pushes its alarms = took_acts parked table back_view spent clears.room
           (λ h. let l = alarms h in omega arith)
+          (back_as_put r id at t e in_pushes its) (back_leaves r id at t e in_pushes its)
           (chains_run law.chains t phase.Running id v.pushes e (mine (λ u. u.pushes)) in_pushes its running_free)
           (live phase.Running refl)
           (facts_after event_keeps (back_event law.born (more parked)).0 law.facts)
           slots_of (Swaps program t (parked_phase p way) phase.Running (v, slots_of))
-          (back_swap program t (v, slots_of) _ p way (c parked, takes parked, was_parked.1, refl))
+          (back_swap program t (v, slots_of) _ p way (c parked, takes parked, was_parked.1, refl)
+          (λ j. (t, (sym (parked.kept.1.1) ∙ lay_as_put r id at t e in_pushes its) j) ∷ slots_of))
 
       -- it is made ready, where it is the first of a rest
       wake_acts : (q : Rest) (left : List ℕ) → v.rest ≡ Some q → q.tasks ≡ t ∷ left → Backing (woke_first way v)
@@ -513,7 +526,7 @@ module _ {B : Type 0} {program : Bool → B → Program B} {key : Key B} {s : St
             };
             backing = backing;
             known_born = h.known_born;
-          }) woke (wakes_path (phase_word phase.Ready) refl)
+          }) (r.pushed id v at) (λ j u other here e i. refl) woke (wakes_path (phase_word phase.Ready) refl)
           (law_task law stays x.words woke_seats
           ((λ j. owned_by (unheld_here parked j) (parked.kept.1.1 j)) ∙ record_owned parked) law.names.knows
           (subst (λ z. Chains (tag_in x) x.words.head x.words.next (phases phase.Ready) x.seats.pushes

@@ -4,7 +4,7 @@ use Rattle.tj_words.proofs.Prelude.{SeatMe, Some, Walk, Way, ap, cell, ended, no
 use Rattle.tj_words.proofs.Prelude.{published, refl, released, rest, step, subst, sym, wait_in, ℕ, ◌<◌, ◌∙◌, ◌≡◌}
 use Rattle.tj_words.proofs.Lemmas.{Acts, acts_giving, acts_keeping, one_some}
 use Rattle.tj_words.specs.Calls.WaitViews.{PutsIfWait, parked, MayPutWait, PutsWait, wait_store, alarmed}
-use Rattle.tj_words.specs.Calls.LiveViews.{ready_store, ended_store}
+use Rattle.tj_words.specs.Calls.LiveViews.{ready_store, ended_store, homed, put_with}
 use Rattle.tj_words.proofs.Phases.EndedStores.{end_stores}
 use Rattle.tj_words.proofs.Phases.ReadyStores.{ready_stores}
 use Rattle.tj_words.proofs.Phases.ParkedStores.{parked_stores}
@@ -36,9 +36,10 @@ module _ {B : Type 0} (program : Bool → B → Program B) (key : Key B) (slots 
   ended_allowed is from may s r many here small =
       subst (λ j. Acts program key s id m j word (ended_store c (step slots i word 0 none) m word)) (sym at)
       (acts_giving program key s r id m (phase_at t) word (ended_store c (step slots i word 0 none) m word)
-      (ended t m.0) t (Some may.record_of) may.puts.slot
-      (end_stores r id here may inside word is from)
-      (ap (λ u. (ended u m.0, rest m.1)) (sym named)))
+      (homed m.1 (ended t m.0)) t (Some may.record_of) may.puts.slot
+      (end_stores r id here may inside (put_with m.1 m.0.put_home)
+      (ap (λ l. put_with l m.0.put_home) may.puts.slot) word is from)
+      (ap (λ u. (homed m.1 (ended u m.0), rest m.1)) (sym named)))
 
   -- the store of a wait
   module _ (kept : EventKeepsFacts) (p : ℕ) (way : Way) (few : p < key.cells) where
@@ -61,11 +62,12 @@ module _ {B : Type 0} (program : Bool → B → Program B) (key : Key B) (slots 
         (then walk.Walking (published t p way m.0, m.1) is refl))
     wait_allowed walk.Parked is from may s r many here small =
         subst (λ j. Acts program key s id m j word Then) (sym at)
-        (acts_giving program key s r id m (phase_at t) word Then (parked t p way m.0) t (Some may.record_of)
-        may.puts.slot
-        (parked_stores r id here may inside kept word
+        (acts_giving program key s r id m (phase_at t) word Then (homed m.1 (parked t p way m.0)) t
+        (Some may.record_of) may.puts.slot
+        (parked_stores r id here may inside kept (put_with m.1 m.0.put_home)
+        (ap (λ l. put_with l m.0.put_home) may.puts.slot) word
         (wait_word key.cells p word way walk.Parked few is from) is)
-        (then walk.Parked (parked t p way m.0, rest m.1) is refl))
+        (then walk.Parked (homed m.1 (parked t p way m.0), rest m.1) is refl))
     wait_allowed walk.Alarmed is from may s r many here small =
         subst (λ j. Acts program key s id m j word Then) (sym at)
         (acts_keeping program key s r id m (phase_at t) word Then (alarmed t p way m.0)

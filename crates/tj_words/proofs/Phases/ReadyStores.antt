@@ -111,6 +111,7 @@ module _ {B : Type 0} {program : Bool → B → Program B} {key : Key B} {s : St
   pub ready_stores : t < key.cells → (word : ℕ) → phase_in word ≡ phase.Ready → word ≡ phase_word phase.Ready
       → StoresWith program key s s.homes id (phase_at t) word (released t v)
   ready_stores inside word is from = left_stores r id t at inside phase.Ready word is from refl s.homes refl
-      (v.tokens - 1) (left_seat r id t at (v.tokens - 1) k h.held
-      (let l = (r.seats id v at).within_lot.tokens_fit in omega arith) h.backing) (ready_path word is)
+      (v.tokens - 1) v.put_home (left_seat r id t at (v.tokens - 1) k h.held
+      (let l = (r.seats id v at).within_lot.tokens_fit in omega arith) h.backing) (r.pushed id v at)
+      (λ j u other here e i. refl) (ready_path word is)
       (ready_law inside)

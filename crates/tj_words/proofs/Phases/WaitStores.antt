@@ -98,7 +98,8 @@ module _ {B : Type 0} {program : Bool → B → Program B} {key : Key B} {s : St
         → IsSeat key (noted_view n (hold (now_does d k) v.tasks)) → Law P key.cells after_store
         → StoresWith program key s s.homes id (phase_at t) word (noted_view n ks)
     noted_stores inside ks e word code is seat = phase_stores r id t inside s.homes refl word code
-        (noted_view n ks) (subst (λ l. IsSeat key (noted_view n l)) (sym e) seat) after_store (noted_path ks e word is)
+        (noted_view n ks) (subst (λ l. IsSeat key (noted_view n l)) (sym e) seat) (r.pushed id v at)
+        (λ j u other here e i. refl) after_store (noted_path ks e word is)
 
   -- the store of Walking
   module _ {t p : ℕ} {way : Way} (h : MayPublishWait t p way v) where

@@ -29,7 +29,7 @@ module _ {B : Type 0} (program : Bool → B → Program B) (key : Key B) where
           (λ q. let shut : head_in (word s.words (head_at c)) ≡ Shut = ap head_in q in
           let has = law.meaning.entries c (law.chains.tagged c shut) in (
             found_shut c law.born has.0 v,
-            (refl, λ y id. refl),
+            (refl, refl, λ y id. refl),
             entry_so r id v k c has none_of (one_of c shut),
             (
               refl,
@@ -51,7 +51,7 @@ module _ {B : Type 0} (program : Bool → B → Program B) (key : Key B) where
           (λ q. let is_open : head_in (word s.words (head_at c)) ≢ Shut = λ z. q (shut_is _ small z) in
           let chain = law.chains.line c in let drawn = drawn_in key.cells (contents_of s) in (
             found_chain c chain v,
-            (refl, λ y id. refl),
+            (refl, refl, λ y id. refl),
             found_so (knowing_of v) (record { cell = c; chain = chain } ∷ v.found) v.rested v.told so
                 (all_cons _ (record { cell = c; chain = chain }) v.found (inr ([], refl)) so.found) so.rested so.told,
             (

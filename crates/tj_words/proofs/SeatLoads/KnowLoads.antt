@@ -292,7 +292,7 @@ module _ {B : Type 0} {program : Bool → B → Program B} {key : Key B} {s : St
         written = tree_written P key.cells (contents_of s) law c f there o;
       })) none_of in (
         saw_word c f (word s.words (once_at c f)) law.born v,
-        (refl, λ y id. refl),
+        (refl, refl, λ y id. refl),
         now,
         (
           refl,
@@ -317,7 +317,7 @@ module _ {B : Type 0} {program : Bool → B → Program B} {key : Key B} {s : St
       dite (ℕ_discrete (word s.words (once_at c once.Tag)) 0)
       (λ z. (
         loaded_once v,
-        (refl, λ y id. refl),
+        (refl, refl, λ y id. refl),
         so,
         (
           refl,
@@ -333,7 +333,7 @@ module _ {B : Type 0} {program : Bool → B → Program B} {key : Key B} {s : St
       ))
       (λ z. let has = law.meaning.entries c z in (
         saw_entry c has.0 law.born v,
-        (refl, λ y id. refl),
+        (refl, refl, λ y id. refl),
         entry_so r id v at c has (one_of c (law.once_words.valued c once.Tag (λ a. a) z).0) none_of,
         (
           refl,
@@ -372,7 +372,7 @@ module _ {B : Type 0} {program : Bool → B → Program B} {key : Key B} {s : St
   bits : Finds once.Bits
   bits = let so = so_now r id v at in let law = r.law in (
     saw_bits named.0 law.born v,
-    (refl, λ y id. refl),
+    (refl, refl, λ y id. refl),
     learned_so law (knowing_of v) so named none_of none_of none_of,
     (
       refl,
@@ -409,7 +409,7 @@ module _ {B : Type 0} (program : Bool → B → Program B) (key : Key B) where
   next_allowed slots id m t i cells task l at e f = load_allowed program key slots id m i
       (next_load cells task (step slots i 0 0 none) m) (λ s r k. (
         noted_step (note.Next task) (word s.words i) m.0,
-        (refl, λ y id. refl),
+        (refl, refl, λ y id. refl),
         knows_so program key s r id m.0 k,
         (
           refl,

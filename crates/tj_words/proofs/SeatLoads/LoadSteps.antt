@@ -8,7 +8,8 @@ use Rattle.tj_words.proofs.Prelude.{set, some, step, stop_at, stop_load, subst, 
 use Rattle.tj_words.proofs.Prelude.{zero, ℕ, ℕ_discrete, ⊎_elim, ◌+◌, ◌-◌, ◌<◌, ◌^◌, ◌∙◌, ◌∷◌, ◌≡◌, ◌≢◌, ◌≤◌}
 use Rattle.tj_words.specs.declared.view.Noted.{Noted}
 use Rattle.tj_words.specs.SeatViews.SeatSteps.{noted_at, IsOn, Tells}
-use Rattle.tj_words.proofs.Stores.SeatLists.{each_set, words_same}
+use Rattle.tj_words.proofs.Stores.SeatLists.{back, each_set, words_same}
+use Rattle.tj_words.specs.LawParts.PushedRecords.{LieAsPut}
 use Rattle.tj_words.proofs.Stores.SeatContents.{seats_set, seats_same, rule_views, set_seats}
 use Rattle.tj_words.proofs.SeatLoads.Learning.{Knowing, knowing_of, IsSo, law_learns, seats_learn}
 use Rattle.tj_words.specs.SeatViews.Views.{loaded_plain, saw_rest, saw_live, saw_stop}
@@ -38,6 +39,7 @@ module _ {B : Type 0} where
   -- the second view is the first one but for what the seat knows, counts and notes
   abbrev pub Knows : View B → View B → Type 0
   Knows v w = (seat_part w ≡ record (seat_part v) { born = w.born; known = w.known })
+      × (w.put_home ≡ v.put_home)
       × ((y : SeatsHave B) (id : ℕ) → set_seats y id w ≡ seats_learn id (knowing_of w) y (set_seats y id v))
 
   -- what holds of a view alone holds of it
@@ -89,10 +91,14 @@ module _ {B : Type 0} where
       told = l.stops.found id v.told (at_map (λ (u : View B). u.told) s.views id v at);
     }
 
+    -- what holds of a view alone holds of this one, and the records of the tasks to push lie at home as it put them
+    abbrev pub IsPutSeat : State (Option (Rec B)) (View B) → View B → Type 0
+    IsPutSeat s w = IsSeat key w × LieAsPut s.homes w.pushes w.put_home
+
     -- a load after which the law holds
     pub law_allowed : (slots id : ℕ) (m : SeatMe B) (i : ℕ) (then : ℕ → SeatMe B → Type 0)
         → ((s : State (Option (Rec B)) (View B)) (r : Rule program key s) → get_elem? s.views id ≡ some m.0
-        → (w : View B) × IsSeat key w × Law (program key.strict key.root.value) key.cells
+        → (w : View B) × IsPutSeat s w × Law (program key.strict key.root.value) key.cells
         record { words = words_say s.words; slots = s.homes; seats = set_seats (seats_have s.views) id w }
         × then (word s.words i) (w, m.1))
         → Allows (Rule program key) slots id m i (λ n. n) then
@@ -102,7 +108,7 @@ module _ {B : Type 0} where
       tt,
       subst (λ z. Rule program key record { words = z; homes = s.homes; views = set s.views id w })
           (sym (words_same s.words i)) (rule_views r (set s.views id w) _ (seats_set s.views id w)
-          (each_set _ s.views id w r.seats t.1) t.2),
+          (each_set _ s.views id w r.seats t.1.0) (each_set _ s.views id w r.pushed t.1.1) t.2),
       t.3,
       tt,
     )
@@ -117,15 +123,18 @@ module _ {B : Type 0} where
     -- the law holds after a load at which the seat learns what is so
     pub law_learned : (s : State (Option (Rec B)) (View B)) (r : Rule program key s) (id : ℕ) (m : SeatMe B)
         (then : ℕ → SeatMe B → Type 0) (n : ℕ) → get_elem? s.views id ≡ some m.0 → Learns s r m then n
-        → (w : View B) × IsSeat key w × Law (program key.strict key.root.value) key.cells
+        → (w : View B) × IsPutSeat s w × Law (program key.strict key.root.value) key.cells
         record { words = words_say s.words; slots = s.homes; seats = set_seats (seats_have s.views) id w }
         × then n (w, m.1)
     law_learned s r id m then n at t = let y = seats_have s.views in let k = knowing_of t.0 in (
       t.0,
-      knows_seat key m.0 t.0 t.1 (r.seats id m.0 at) t.2.known_born,
+      (
+        knows_seat key m.0 t.0 t.1 (r.seats id m.0 at) t.2.known_born,
+        back (λ j. LieAsPut s.homes (t.1.0 j).pushes (t.1.1 j)) (r.pushed id m.0 at),
+      ),
       subst (λ z. Law (program key.strict key.root.value) key.cells
           record { words = words_say s.words; slots = s.homes; seats = z })
-          (sym (t.1.1 y id ∙ ap (seats_learn id k y) (seats_same s.views id m.0 at)))
+          (sym (t.1.2 y id ∙ ap (seats_learn id k y) (seats_same s.views id m.0 at)))
           (law_learns (program key.strict key.root.value) key.cells (contents_of s) r.law id k t.2),
       t.3,
     )
@@ -145,7 +154,7 @@ module _ {B : Type 0} where
     plain_allowed slots id m i kind May on may =
         load_allowed slots id m i (plain_load kind May (step slots i 0 0 none) m) (λ s r at. (
           loaded_plain kind (word s.words i) m.0,
-          (refl, λ y id. refl),
+          (refl, refl, λ y id. refl),
           knows_so s r id m.0 at,
           (refl, refl, may s r, on),
         ))
@@ -156,7 +165,7 @@ module _ {B : Type 0} where
     noted_allowed slots id m i kind May on may =
         load_allowed slots id m i (noted_load kind May (step slots i 0 0 none) m) (λ s r at. (
           noted_step kind (word s.words i) m.0,
-          (refl, λ y id. refl),
+          (refl, refl, λ y id. refl),
           knows_so s r id m.0 at,
           (refl, refl, may s r, on),
         ))
@@ -186,14 +195,14 @@ module _ {B : Type 0} where
         (λ s r at. dite (ℕ_discrete (word s.words live_at) 0)
         (λ z. (
           saw_rest m.0,
-          (refl, λ y id. refl),
+          (refl, refl, λ y id. refl),
           (let o = knows_so s r id m.0 at in
               found_so (knowing_of m.0) m.0.found true m.0.told o o.found (λ e. z) o.told),
           (refl, (λ e. refl), (λ n. absurd (n z)), live_small s r, refl),
         ))
         (λ n. (
           saw_live (word s.words live_at) m.0,
-          (refl, λ y id. refl),
+          (refl, refl, λ y id. refl),
           knows_so s r id m.0 at,
           (refl, (λ e. absurd (n e)), (λ e. refl), live_small s r, refl),
         )))
@@ -212,7 +221,7 @@ module _ {B : Type 0} where
         load_allowed slots id m stop_at (stop_load program (step slots stop_at 0 0 none) m) (λ s r at.
         let n = word s.words stop_at in let o = knows_so s r id m.0 at in (
           saw_stop n m.0,
-          (refl, λ y id. refl),
+          (refl, refl, λ y id. refl),
           found_so (knowing_of m.0) m.0.found m.0.rested (n ∷ m.0.told) o o.found o.rested
               (λ k i z. ⊎_elim (λ (e : k ≡ n). subst (IsStored (seats_have s.views).stored) (sym e)
               (r.law.stops.given (λ q. z (e ∙ q)))) (λ i. o.told k i z) i),

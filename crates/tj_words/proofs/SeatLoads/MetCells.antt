@@ -99,7 +99,7 @@ module _ {B : Type 0} (program : Bool → B → Program B) (key : Key B) where
           (word s.words (own_at c))
       by s r k None q = (
         loaded_plain (note.Owner c) 0 m.0,
-        (refl, λ y d. refl),
+        (refl, refl, λ y d. refl),
         knows_so program key s r id m.0 k,
         (
           refl,
@@ -113,7 +113,7 @@ module _ {B : Type 0} (program : Bool → B → Program B) (key : Key B) where
           = (c ∷ u ∷ [], all_cons _ c (u ∷ []) o.0 (one_of u o.1).1) in
           let w = met there.0 r.law.born (loaded_plain (note.Owner c) (suc u) m.0) in (
             w,
-            (refl, λ y d. refl),
+            (refl, refl, λ y d. refl),
             met_so r id m.0 k there,
             (
               refl,
@@ -139,6 +139,7 @@ module _ {B : Type 0} (program : Bool → B → Program B) (key : Key B) where
         w,
         (
           (λ i. record (seat_part m.0) { born = w.born; known = w.known; rest = e i }),
+          refl,
           (λ y d i. record (seats_learn d (knowing_of w) y (set_seats y d m.0)) { rests = set y.rests d (e i) }),
         ),
         met_so r id m.0 k there,

@@ -10,7 +10,7 @@ use Rattle.tj_words.proofs.Waiters.ChainPhases.{chains_read, rest_first}
 use Rattle.tj_words.proofs.Waiters.Backings.{wakes_seat}
 use Rattle.tj_words.proofs.Holders.HeldTasks.{none_some}
 use Rattle.tj_words.proofs.Prelude.{IsBegun}
-use Rattle.tj_words.proofs.SeatLoads.LoadSteps.{law_learned}
+use Rattle.tj_words.proofs.SeatLoads.LoadSteps.{IsPutSeat, law_learned}
 use Rattle.tj_words.proofs.SeatLoads.MetCells.{begun_or, phase_learned}
 
 -- what is known of the way of a first task is as before, or the task is the one that was loaded
@@ -91,14 +91,14 @@ module _ {B : Type 0} (program : Bool → B → Program B) (key : Key B) where
 
     -- the law holds after the load, and the view is as it tells
     abbrev IsLoaded : Type 0
-    IsLoaded = (w : View B) × IsSeat key w × Law (program key.strict key.root.value) key.cells
+    IsLoaded = (w : View B) × IsPutSeat program key s w × Law (program key.strict key.root.value) key.cells
         record { words = words_say s.words; slots = s.homes; seats = set_seats (seats_have s.views) id w }
         × phase_load key.cells t (step slots i 0 0 none) m (word s.words (phase_at t)) (w, m.1)
 
     kept : (m.0.rest ≡ None → IsBegun phase_now → ⊥) → IsLoaded
     kept apart = (
       loaded_phase t phase_now m.0,
-      loaded_seat s r id t m.0 at,
+      (loaded_seat s r id t m.0 at, r.pushed id m.0 at),
       loaded_law s r id t m.0 at,
       (
         refl,

@@ -85,8 +85,11 @@ module _ {B : Type 0} (program : Bool → B → Program B) (key : Key B) where
       let now : g h.task.does ≡ d = ap g h.does in
       let walked : (does.Walking h.wait h.way h.walker) ≡ h.task.does = sym h.does in (
         turned t g m.0,
-        turned_seat t g m.0 h.task h.held key d now
-            (λ a. absurd (subst DoesRun (sym walked) a)) (λ a. tt) (λ a. a) (r.seats id m.0 at),
+        (
+          turned_seat t g m.0 h.task h.held key d now
+              (λ a. absurd (subst DoesRun (sym walked) a)) (λ a. tt) (λ a. a) (r.seats id m.0 at),
+          r.pushed id m.0 at,
+        ),
         subst (λ z. Law P key.cells record { words = words_say s.words; slots = s.homes; seats = z })
             (sym (turned_seats s id t g m.0 at h.task h.held d now)) l.0,
         (refl, ap (λ z. turned z g m.0) (sym e), l.1),

@@ -247,6 +247,8 @@ module _ {B : Type 0} where
         (each_set _ s.views id (both v w) r.seats
         (both_seat key v w (r.seats id v at) (r.seats other w there) so.known_born))
         (spent_seat key))
+        (each_set _ (set s.views id (both v w)) other spent
+        (each_set _ s.views id (both v w) r.pushed (r.pushed id v at)) (λ e i. absurd i))
         (law_lots P key.cells x2 law2 _ _ _ lots stops)
 
   -- a merge keeps the rule

@@ -306,6 +306,7 @@ module _ {B : Type 0} (program : Bool → B → Program B) (key : Key B) (some_c
           backing = idle_backing;
           known_born = λ c i. absurd i;
         });
+        pushed = each_only _ _ (λ e i. absurd i);
         law = back (λ j. Law (program key.strict root_of) key.cells (record {
           words = first_words_say key.cells some_cells j;
           slots = map some (first_slots key.cells (sym same j));

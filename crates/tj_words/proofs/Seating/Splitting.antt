@@ -67,6 +67,8 @@ module _ {B : Type 0} where
         (each_snoc _ (set s.views id (left_half v)) (right_half v)
         (each_set _ s.views id (left_half v) r.seats (left_seat key v m (r.seats id v at)))
         (λ j. right_seat key v (r.seats id v at)))
+        (each_snoc _ (set s.views id (left_half v)) (right_half v)
+        (each_set _ s.views id (left_half v) r.pushed (r.pushed id v at)) (λ j e i. absurd i))
         (law_appends (program key.strict key.root.value) key.cells (contents_of s) r.law lots all v
         (knows_so program key s r id v at))
 

@@ -160,7 +160,7 @@ module _ {B : Type 0} (program : Bool → B → Program B) (key : Key B) where
       let same : m.about ≡ record { root = key.root.value; cells = key.cells; strict = key.strict } =
       q.about m.about m.is_about in
       once_stores program key s r id c n once.Bits l w (written y id c once.Bits v w y.shuts y) tt
-      (seat_written key v c once.Bits w.shuts q q.backing.wakes)
+      (seat_written key v c once.Bits w.shuts q q.backing.wakes) (r.pushed id v at)
       (ap (λ (z : SeatsHave B). written y id c once.Bits v w z.shuts z) (seats_same s.views id v at))
       (law_bits program key s r id c v at m.entry n m.due
       (subst (λ (a : About B). MayStoreBits (program a.strict a.root) v.born v.known c m.entry n) same m.may))
@@ -190,7 +190,7 @@ module _ {B : Type 0} (program : Bool → B → Program B) (key : Key B) where
   tag_stores s r id c n v at l m = let y = seats_have s.views in let w = wrote_tag c m.entry v in
       once_stores program key s r id c n once.Tag l w (written y id c once.Tag v w (set y.shuts id w.shuts) y)
       (subst (λ k. k ≤ 4) (sym m.tag) (tag_small m.entry))
-      (seat_written key v c once.Tag w.shuts (r.seats id v at) (λ h. m.backed))
+      (seat_written key v c once.Tag w.shuts (r.seats id v at) (λ h. m.backed)) (r.pushed id v at)
       (ap (written y id c once.Tag v w (set y.shuts id w.shuts)) (seats_same s.views id v at))
       (law_tag program key s r id c v at m.entry n m.due m.bits_first m.wrote m.tag)
 

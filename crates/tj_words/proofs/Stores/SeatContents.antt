@@ -2,6 +2,7 @@
 use Rattle.tj_words.proofs.Prelude.{Bool, Each, IsSeat, Key, Law, List, Option, Program, Rec, Rule, SeatsHave, State}
 use Rattle.tj_words.proofs.Prelude.{View, ap, get_elem?, map-set, seats_have, set, set_again, some, subst, sym}
 use Rattle.tj_words.proofs.Prelude.{words_say, ℕ, ◌∙◌, ◌≡◌}
+use Rattle.tj_words.specs.LawParts.PushedRecords.{LieAsPut}
 
 module _ {B : Type 0} where
   -- seat id has the view w
@@ -65,10 +66,11 @@ module _ {B : Type 0} {program : Bool → B → Program B} {key : Key B} {s : St
   -- the rule where the words and slots stay, by the law over what the seats have then
   pub rule_views : (views : List (View B)) (seats : SeatsHave B) → seats_have views ≡ seats
       → Each (λ j v. IsSeat key v) views
+      → Each (λ j (v : View B). LieAsPut s.homes v.pushes v.put_home) views
       → Law (program key.strict key.root.value) key.cells
       record { words = words_say s.words; slots = s.homes; seats = seats }
       → Rule program key record { words = s.words; homes = s.homes; views = views }
-  rule_views views seats path each law = record {
+  rule_views views seats path each pushed law = record {
     some_cells = r.some_cells;
     few_cells = r.few_cells;
     rooted = r.rooted;
@@ -76,6 +78,7 @@ module _ {B : Type 0} {program : Bool → B → Program B} {key : Key B} {s : St
     all_slots = r.all_slots;
     codes = r.codes;
     seats = each;
+    pushed = pushed;
     law = subst (λ z. Law (program key.strict key.root.value) key.cells
         record { words = words_say s.words; slots = s.homes; seats = z })
         (sym path)

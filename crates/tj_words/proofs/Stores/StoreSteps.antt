@@ -2,8 +2,10 @@
 use Rattle.tj_words.proofs.Prelude.{Allows, Bool, Codes, Contents, IsPhaseWord, IsSeat, Key, Law, List, Once, Option}
 use Rattle.tj_words.proofs.Prelude.{Program, Rec, Rule, SeatMe, Slots, State, View, ap, cond, dite, eq-eqb, get_elem?}
 use Rattle.tj_words.proofs.Prelude.{keeps, length, length-set, ne_eqb, put, refl, seats_have, set, shut_word, some}
+use Rattle.tj_words.proofs.Prelude.{All, Push, home_in}
 use Rattle.tj_words.proofs.Prelude.{subst, sym, word, words_say, ℕ, ℕ_discrete, ◌<◌, ◌^◌, ◌∙◌, ◌≡◌, ◌≢◌, ◌≤◌, ◌⊎◌}
-use Rattle.tj_words.proofs.Stores.SeatLists.{each_set, word_else, word_here}
+use Rattle.tj_words.specs.LawParts.PushedRecords.{LieAsPut}
+use Rattle.tj_words.proofs.Stores.SeatLists.{each_else, each_set, word_else, word_here}
 use Rattle.tj_words.proofs.Stores.SeatContents.{set_seats, seats_set}
 use Rattle.tj_words.proofs.Stores.StepContents.{stored, stored_with}
 use Rattle.tj_words.proofs.Stores.StoredWords.{say}
@@ -71,6 +73,11 @@ codes_store cells ws i n l m k = record {
     holds : (w : TableWord) → MayHold cells w (word ws (index w)) → MayHold cells w (word (set ws i n) (index w))
     holds w h = word_keeps (MayHold cells w) ws i n (index w) l (m w) h
 
+-- these slots have the records at home, as before, of all tasks that seats other than this one are to push
+abbrev pub LeavesPushed : {B : Type 0} → State (Option (Rec B)) (View B) → Slots B → ℕ → Type 0
+LeavesPushed {B} s slots id = (j : ℕ) (u : View B) → j ≢ id → get_elem? s.views j ≡ some u
+    → All (λ (e : Push). home_in slots e.task ≡ home_in s.homes e.task) u.pushes
+
 module _ {B : Type 0} (program : Bool → B → Program B) (key : Key B) where
   -- what a step owes that stores n at i, leaves the slots like this, and its seat with the view w
   pub record StoresWith (s : State (Option (Rec B)) (View B)) (slots : Slots B) (id i n : ℕ) (w : View B) : Type 0
@@ -79,6 +86,8 @@ module _ {B : Type 0} (program : Bool → B → Program B) (key : Key B) where
       pub as_many : length slots ≡ length s.homes
       pub may : MayStore key.cells i n
       pub seat : IsSeat key w
+      pub as_put : LieAsPut slots w.pushes w.put_home
+      pub leaves : LeavesPushed s slots id
       pub law : Law (program key.strict key.root.value) key.cells
           record { words = words_say (set s.words i n); slots = slots; seats = set_seats (seats_have s.views) id w }
 
@@ -95,6 +104,7 @@ module _ {B : Type 0} (program : Bool → B → Program B) (key : Key B) where
     all_slots = h.as_many ∙ r.all_slots;
     codes = codes_store key.cells s.words i n h.inside h.may r.codes;
     seats = each_set _ s.views id w r.seats h.seat;
+    pushed = each_else _ s.views id w (λ j u n at e i. h.leaves j u n at e i ∙ r.pushed j u at e i) h.as_put;
     law = subst (λ z. Law (program key.strict key.root.value) key.cells
         record { words = words_say (set s.words i n); slots = slots; seats = z }) (sym (seats_set s.views id w)) h.law;
   }
@@ -119,13 +129,16 @@ module _ {B : Type 0} (program : Bool → B → Program B) (key : Key B) where
   -- a store of n into the word w, by the law over contents to which there is a path from those that it leaves
   pub store_word_with : (s : State (Option (Rec B)) (View B)) (id : ℕ) (w : TableWord) (n : ℕ) (slots : Slots B)
       (v : View B) → index w < length s.words → length slots ≡ length s.homes → MayHold key.cells w n → IsSeat key v
+      → LieAsPut slots v.pushes v.put_home → LeavesPushed s slots id
       → (y : Contents B) → stored_with s id w n slots v ≡ y → Law (program key.strict key.root.value) key.cells y
       → StoresWith s slots id (index w) n v
-  store_word_with s id w n slots v l many m seat y path law = record {
+  store_word_with s id w n slots v l many m seat mine leaves y path law = record {
     inside = l;
     as_many = many;
     may = may_store key.cells w n m;
     seat = seat;
+    as_put = mine;
+    leaves = leaves;
     law = subst (λ z. Law (program key.strict key.root.value) key.cells
         record { words = z; slots = slots; seats = set_seats (seats_have s.views) id v })
         (sym (say s.words n w l)) (subst (Law (program key.strict key.root.value) key.cells) (sym path) law);
@@ -133,6 +146,8 @@ module _ {B : Type 0} (program : Bool → B → Program B) (key : Key B) where
 
   pub store_word : (s : State (Option (Rec B)) (View B)) (id : ℕ) (w : TableWord) (n : ℕ) (v : View B)
       → index w < length s.words → MayHold key.cells w n → IsSeat key v
+      → LieAsPut s.homes v.pushes v.put_home
       → (y : Contents B) → stored s id w n v ≡ y → Law (program key.strict key.root.value) key.cells y
       → Stores s id (index w) n v
-  store_word s id w n v l m seat y path law = store_word_with s id w n s.homes v l refl m seat y path law
+  store_word s id w n v l m seat mine y path law = store_word_with s id w n s.homes v l refl m seat mine
+      (λ j u other at e i. refl) y path law

@@ -190,7 +190,7 @@ module _ {B : Type 0} (program : Bool → B → Program B) (key : Key B) where
       let born = born_at P key.cells (contents_of s) law h.cell (law.hands.each id h has).drawn_cell in
       once_stores program key s r id c n f l w (record y { seen = set y.seen id w.seen; dues = set y.dues id w.dues })
       (may_stand law id h has v tasks stands (let a = r.few_cells in omega arith) f n m.right born.0 born.1)
-      (seat_written key v c f v.shuts q q.backing.wakes)
+      (seat_written key v c f v.shuts q q.backing.wakes) (r.pushed id v at)
       (ap (λ (z : SeatsHave B). record z { seen = set y.seen id w.seen; dues = set y.dues id w.dues })
       (seats_same s.views id v at))
       (law_written law id h has v tasks stands c f n m.its_cell (at_map (λ (u : View B). u.seen) s.views id v at)

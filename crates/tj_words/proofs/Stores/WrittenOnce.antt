@@ -6,6 +6,7 @@ use Rattle.tj_words.proofs.Prelude.{without_due, words_say, ℕ, ◌<◌, ◌≡
 use Rattle.tj_words.proofs.Lemmas.{MayStand, Stores, put_word, set_seats, store_word}
 use Rattle.tj_words.proofs.SeatLoads.KnowLoads.{once_within}
 use Rattle.tj_words.proofs.Stores.TableWords.{Written}
+use Rattle.tj_words.specs.LawParts.PushedRecords.{LieAsPut}
 use Rattle.tj_words.proofs.Stores.OnceStores.{due_else}
 
 -- a seat to which the word isn't due from now on is so, where it is backed if a wake is to come
@@ -35,10 +36,11 @@ module _ {B : Type 0} (program : Bool → B → Program B) (key : Key B) (s : St
   }
 
   pub once_stores : (w : View B) (y : SeatsHave B) → MayStand key.cells f n → IsSeat key w
+      → LieAsPut s.homes w.pushes w.put_home
       → set_seats (seats_have s.views) id w ≡ y → LawWith y
       → Stores program key s id (once_at c f) n w
-  once_stores w y may seat same = store_word program key s id (Written c f) n w
-      (let e = r.all_words in let i = once_within c key.cells f l in omega arith) may seat _ (λ j. record {
+  once_stores w y may seat put same = store_word program key s id (Written c f) n w
+      (let e = r.all_words in let i = once_within c key.cells f l in omega arith) may seat put _ (λ j. record {
         words = record (words_say s.words) { once = put_word (words_say s.words).once c f n };
         slots = s.homes;
         seats = same j;

@@ -13,7 +13,10 @@ use Rattle.tj_words.specs.Calls.ChainSteps.{KnowsEntry, next_store}
 use Rattle.tj_words.proofs.Stores.StoreSteps.{MayHold}
 use Rattle.tj_words.proofs.SeatLoads.KnowLoads.{task_in, shut_is, tag_some}
 use Rattle.tj_words.proofs.SeatLoads.HeadLoads.{head_allowed}
-use Rattle.tj_words.proofs.Waiters.ChainHeads.{nexts, pushes, shuts, shuts_again}
+use Rattle.tj_words.proofs.Prelude.{Some, home_in}
+use Rattle.tj_words.specs.LawParts.PushedRecords.{LieAsPut, put_last}
+use Rattle.tj_words.proofs.Waiters.ChainHeads.{in_with_next, nexts, pushes, shuts, shuts_again}
+use Rattle.tj_words.proofs.Waiters.ChainLists.{in_without_push}
 use Rattle.tj_words.proofs.Waiters.ChainFacts.{line_small, head_small}
 use Rattle.tj_words.proofs.Waiters.Backings.{wakes_seat}
 use Rattle.tj_words.proofs.Stores.TableWords as table_word
@@ -44,25 +47,34 @@ module _ {B : Type 0} (program : Bool → B → Program B) (key : Key B) where
     -- a step on HEAD or NEXT by a backed seat, whose view changes in what it has of the chains
     chain_stores : (w : View B)
         → seat_part w ≡ record (seat_part v) { pushes = w.pushes; shuts = w.shuts; rest = w.rest } → IsBacked v
+        → LieAsPut s.homes w.pushes w.put_home
         → (x : TableWord) (n : ℕ) → index x < length s.words → MayHold key.cells x n
         → {head next : ℕ → Head} {pl : List (List Push)} {sl : List (List ℕ)} {rl : List (Option Rest)}
         {cl : List (List ℕ)} → said words x n ≡ record words { head = head; next = next }
         → set_seats seats id w ≡ record seats { pushes = pl; shuts = sl; rests = rl; closed = cl }
         → Chains (tag_in (contents_of s)) head next words.phase pl sl rl cl seats.found
         → Stores program key s id (index x) n w
-    chain_stores w same backed x n inside may {head} {next} {pl} {sl} {rl} {cl} say path chains =
+    chain_stores w same backed mine x n inside may {head} {next} {pl} {sl} {rl} {cl} say path chains =
         store_word program key s id x n w inside may (subst (IsSeatOf key) (sym same)
-        (wakes_seat key v (r.seats id v at) w.pushes w.shuts w.rest (λ _. backed))) _
+        (wakes_seat key v (r.seats id v at) w.pushes w.shuts w.rest (λ _. backed))) mine _
         (λ j. record { words = say j; slots = s.homes; seats = path j })
         (let l = r.law in law_kept l (record words { head = head; next = next })
         (record seats { pushes = pl; shuts = sl; rests = rl; closed = cl }) l.lots l.names l.tree_words l.once_words
         chains l.live_count l.stops l.records_fit l.meaning l.facts)
 
+    -- a store of NEXT leaves the tasks to push
+    next_as_put : (t : ℕ) (h : Head) → LieAsPut s.homes (with_next t h v.pushes) v.put_home
+    next_as_put t h e i = let w = in_with_next t h v.pushes e i in
+        subst (λ u. home_in s.homes u ≡ put_last v.put_home u) (⊎_elim
+        (λ (q : (w.0.task ≡ t) × (e ≡ record w.0 { next = Some h })). ap (λ (z : Push). z.task) (sym q.1))
+        (λ (q : (w.0.task ≢ t) × (e ≡ w.0)). ap (λ (z : Push). z.task) (sym q.1)) w.2) (r.pushed id v at w.0 w.1)
+
     -- a store of NEXT
     next_stores : (t n : ℕ) → t < key.cells → n ≤ key.cells → HasPush t v
         → Stores program key s id (next_at t) n (stored_next t (head_in n) v)
     next_stores t n l small has = chain_stores (stored_next t (head_in n) v) refl
-        (push_backed v has.0 (r.seats id v at) has.1) (table_word.Next t) n (next_inside t l) small refl
+        (push_backed v has.0 (r.seats id v at) has.1) (next_as_put t (head_in n)) (table_word.Next t) n
+        (next_inside t l) small refl
         (ap (λ (z : SeatsHave B). record z { pushes = set seats.pushes id (with_next t (head_in n) v.pushes) })
         (seats_same s.views id v at))
         (nexts r.law.chains t id (head_in n) v.pushes
@@ -73,7 +85,8 @@ module _ {B : Type 0} (program : Bool → B → Program B) (key : Key B) where
         → HasPushBehind t p (head_in (word s.words (head_at p))) v → head_in (word s.words (head_at p)) ≢ Shut
         → Stores program key s id (head_at p) (suc t) (pushed t v)
     push_stores t p lt lp has unshut = chain_stores (pushed t v) refl
-        (push_backed v has.0 (r.seats id v at) has.1) (table_word.Head p) (suc t) (head_inside p lp)
+        (push_backed v has.0 (r.seats id v at) has.1)
+        (λ e i. r.pushed id v at e (in_without_push t v.pushes e i).0) (table_word.Head p) (suc t) (head_inside p lp)
         (inr (omega arith)) (ap (λ h. record words { head = put words.head p h }) (sym is_task))
         (ap (λ (z : SeatsHave B). record z { pushes = set seats.pushes id (without_push t v.pushes) })
         (seats_same s.views id v at))
@@ -88,7 +101,8 @@ module _ {B : Type 0} (program : Bool → B → Program B) (key : Key B) where
     shut_stores : (p : ℕ) → p < key.cells → KnowsEntry p v → v.rest ≡ None → IsBacked v
         → head_in (word s.words (head_at p)) ≢ Shut
         → Stores program key s id (head_at p) shut_word (took_chain p (r.law.chains.line p) v)
-    shut_stores p lp knows free back unshut = chain_stores (took_chain p chain v) refl back (table_word.Head p)
+    shut_stores p lp knows free back unshut = chain_stores (took_chain p chain v) refl back (r.pushed id v at)
+        (table_word.Head p)
         shut_word (head_inside p lp) (inl refl) refl
         (ap (λ (z : SeatsHave B). record z {
           shuts = set seats.shuts id (without p v.shuts);
@@ -109,7 +123,8 @@ module _ {B : Type 0} (program : Bool → B → Program B) (key : Key B) where
     -- a shut of a head that was shut
     shut_again : (p : ℕ) → p < key.cells → IsBacked v → head_in (word s.words (head_at p)) ≡ Shut
         → Stores program key s id (head_at p) shut_word (found_taken p v)
-    shut_again p lp back is_shut = chain_stores (found_taken p v) refl back (table_word.Head p) shut_word
+    shut_again p lp back is_shut = chain_stores (found_taken p v) refl back (r.pushed id v at) (table_word.Head p)
+        shut_word
         (head_inside p lp) (inl refl) (λ j. record words { head = λ c. same c j })
         (ap (λ (z : SeatsHave B). record z {
           shuts = set seats.shuts id (without p v.shuts);

@@ -9,7 +9,7 @@ use Rattle.tj_words.proofs.Lemmas.{Acts, IsQuietStep, Live, Stores, StoresWith, 
 use Rattle.tj_words.proofs.Lemmas.{left_seat, of_seat_here, of_seat_set, put_self, rule_stores, seats_same}
 use Rattle.tj_words.proofs.Lemmas.{step_allowed, store_word, store_word_with, stored, stored_with}
 use Rattle.tj_words.specs.Calls.LiveViews.{live_lowered, live_raised, without_task, MayRaiseLive, MayLowerLive}
-use Rattle.tj_words.specs.Calls.LiveViews.{live_add, live_sub, stop_store}
+use Rattle.tj_words.specs.Calls.LiveViews.{homed, live_add, live_sub, stop_store}
 use Rattle.tj_words.specs.SeatViews.Views.{stored_stop}
 use Rattle.tj_words.proofs.Stores.TableWords.{Stop}
 use Rattle.tj_words.proofs.Waiters.StopSteps.{law_stops}
@@ -23,6 +23,9 @@ use Rattle.tj_words.proofs.Holders.LaidRecords.{tokens_at}
 use Rattle.tj_words.proofs.Phases.Departures.{Departs, after_leaving, leave, leave_owned, leaves_quietly}
 use Rattle.tj_words.proofs.Holders.TaskMoves.{law_task}
 use Rattle.tj_words.proofs.Phases.HomeComings.{home_stores}
+use Rattle.tj_words.proofs.Waiters.ChainFacts.{IsNotParked, held_free}
+use Rattle.tj_words.proofs.Prelude.{sym}
+use Rattle.tj_words.proofs.Waiters.PushedRecords.{laid_as_put, laid_leaves}
 use Rattle.tj_words.specs.declared.phase.Phase.TheVariants as phase
 use Rattle.tj_words.specs.declared.phase.Walk.TheVariants as walk
 use Rattle.tj_words.specs.declared.view.Does.TheVariants as does
@@ -49,8 +52,11 @@ module _ {B : Type 0} {program : Bool → B → Program B} {key : Key B} {s : St
   abbrev departs : Departs r.law id t alarm (laid_slots r id at lays)
   departs = departs_laid r id at lays alarm refl (λ d way w e. (w, waits ∙ e)) (λ o y l. inr l)
 
+  free : IsNotParked (x.words.phase t)
+  free = subst IsNotParked (sym (custody r.law id t h.custody (lays_held r id at lays)).does) (held_free h.custody.does)
+
   abbrev shelf_view : View B
-  shelf_view = without_task t (with_tokens (v.tokens - 1) v)
+  shelf_view = record (without_task t (with_tokens (v.tokens - 1) v)) { put_home = c ∷ v.put_home }
 
   module _ (live : ℕ) where
     abbrev beside : SeatsHave B
@@ -95,7 +101,9 @@ module _ {B : Type 0} {program : Bool → B → Program B} {key : Key B} {s : St
   shelf_stores token backs = store_word_with program key s id Live lower (laid_slots r id at lays) shelf_view
       (let e = r.all_words in omega arith) (as_many r id at lays) tt
       (left_seat r id t at (v.tokens - 1) h.custody h.held
-      (let f = (r.seats id v at).within_lot.tokens_fit in omega arith) backs) (after_shelf lower) (shelf_path lower)
+      (let f = (r.seats id v at).within_lot.tokens_fit in omega arith) backs)
+      (laid_as_put r id at t c h.puts.cell free (c ∷ v.put_home) refl) (laid_leaves r id at t c h.puts.cell free)
+      (after_shelf lower) (shelf_path lower)
       (shelf_law token)
 
 module _ {B : Type 0} (program : Bool → B → Program B) (key : Key B) where
@@ -107,7 +115,7 @@ module _ {B : Type 0} (program : Bool → B → Program B) (key : Key B) where
     stop_stores : (w : ℕ) → 0 < w → w ≤ 2 → (w ≡ 1 → 0 < v.refused)
         → Stores program key s id stop_at w (stored_stop w v)
     stop_stores w above small refused =
-        store_word program key s id Stop w (stored_stop w v) inside small (r.seats id v at) _ path
+        store_word program key s id Stop w (stored_stop w v) inside small (r.seats id v at) (r.pushed id v at) _ path
         (law_stops P key.cells (contents_of s) r.law w
         (set (seats_have s.views).stored id (w ∷ v.stored)) stops
         (λ e. refused_above key.cells (contents_of s).words.count (contents_of s).seats.lots
@@ -161,7 +169,7 @@ module _ {B : Type 0} (program : Bool → B → Program B) (key : Key B) where
         → Acts program key s id (v, mine) live_at (suc (word s.words live_at)) (λ m'. m' ≡ raised_with v mine)
     up_acts ((t, Some c) ∷ mine) may = acts_giving program key s r id (v, (t, Some c) ∷ mine) live_at
         (suc (word s.words live_at)) (λ m'. m' ≡ raised_with v ((t, Some c) ∷ mine))
-        (came_home t c (with_tokens (suc v.tokens) v)) t (Some c) refl
+        (homed ((t, Some c) ∷ mine) (came_home t c (with_tokens (suc v.tokens) v))) t (Some c) refl
         (home_stores r id at may.lays may.backed may.room) refl
     up_acts mine may = plain (suc (word s.words live_at)) (with_tokens (suc v.tokens) v) (λ m'. m' ≡ raised_with v mine)
         mine (live_up_stores program key s r id v at may.backed may.room) refl
@@ -170,7 +178,7 @@ module _ {B : Type 0} (program : Bool → B → Program B) (key : Key B) where
         → Acts program key s id (v, mine) live_at (word s.words live_at - 1) (λ m'. m' ≡ lowered_with v mine)
     down_acts ((t, Some c) ∷ mine) may = acts_giving program key s r id (v, (t, Some c) ∷ mine) live_at
         (word s.words live_at - 1) (λ m'. m' ≡ lowered_with v ((t, Some c) ∷ mine))
-        (without_task t (with_tokens (v.tokens - 1) v)) t (Some c) refl
+        (homed ((t, Some c) ∷ mine) (without_task t (with_tokens (v.tokens - 1) v))) t (Some c) refl
         (shelf_stores r id at may.shelves may.token may.backing) refl
     down_acts mine may = plain (word s.words live_at - 1) (with_tokens (v.tokens - 1) v)
         (λ m'. m' ≡ lowered_with v mine) mine

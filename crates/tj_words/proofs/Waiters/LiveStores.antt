@@ -44,7 +44,7 @@ module _ {B : Type 0} (program : Bool → B → Program B) (key : Key B) (s : St
               record { least = l.least; refused_fit = l.refused_fit; tokens_fit = fits; cleared_fit = l.cleared_fit };
           backing = backs;
           known_born = h.known_born;
-        } _ path (let l = r.law in law_kept l (record (words_say s.words) { live = n })
+        } (r.pushed id v at) _ path (let l = r.law in law_kept l (record (words_say s.words) { live = n })
         (record old { tokens = set old.tokens id k }) l.lots l.names l.tree_words l.once_words l.chains count l.stops
         l.records_fit l.meaning l.facts)
 

@@ -14,6 +14,7 @@ use Rattle.tj_words.proofs.SeatLoads.WalkLoads.{turned_seat, turned_seats, held_
 use Rattle.tj_words.proofs.SeatLoads.WalkReads.{doing, turned_to, task_turned, law_turned}
 use Rattle.tj_words.proofs.Events.TurnedTasks.{acting_begun}
 use Rattle.tj_words.specs.declared.view.Does.TheVariants as does
+use Rattle.tj_words.specs.LawParts.PushedRecords.{LieAsPut}
 
 -- a task that may act runs
 pub acting_phase : (d : Does) → MayAct d → phase_of does.Raised ≡ phase_of d
@@ -81,9 +82,10 @@ module _ {B : Type 0} (program : Bool → B → Program B) (key : Key B) (event_
 
   -- a store of OTHERS
   stores : (n : ℕ) (w : View B) (seats : SeatsHave B) → set_seats (seats_have s.views) id w ≡ seats → IsSeat key w
+      → LieAsPut s.homes w.pushes w.put_home
       → Law P key.cells record { words = record (words_say s.words) { others = n }; slots = s.homes; seats = seats }
       → Stores program key s id others_at n w
-  stores n w seats e q = store_word program key s id Others n w inside tt q _
+  stores n w seats e q put = store_word program key s id Others n w inside tt q put _
       (λ j. record { words = record (words_say s.words) { others = n }; slots = s.homes; seats = e j })
 
   -- the add, by a seat with a running task
@@ -93,7 +95,7 @@ module _ {B : Type 0} (program : Bool → B → Program B) (key : Key B) (event_
       stores n (turned t (λ _. does.Raised) v) _
       (turned_seats program key s id t (λ _. does.Raised) v at k h.held does.Raised refl)
       (turned_seat t (λ _. does.Raised) v k h.held key does.Raised refl (λ a. tt) (λ a. walks k.does h.acts a) (λ a. a)
-      (r.seats id v at))
+      (r.seats id v at)) (r.pushed id v at)
       (law_raises event_keeps r.law id t k (held_by_view program key s id t v at k h.held) h.acts h.result)
     where
       walks : (d : Does) → MayAct d → DoesWalk d → ⊥
@@ -122,6 +124,7 @@ module _ {B : Type 0} (program : Bool → B → Program B) (key : Key B) (event_
               backing = record { wakes = q.backing.wakes; tags = q.backing.tags; alarms = q.backing.alarms };
               known_born = q.known_born;
             }
+            (r.pushed id v at)
             (law_lowers event_keeps r.law (set old.cleared id (v.cleared - 1)) less),
       )
 

@@ -19,6 +19,7 @@ use Rattle.tj_words.specs.Words.Codes.{IsPhaseWord}
 use Rattle.tj_words.specs.LawParts.LiveCount.{HasAlarmed, Holds, Backing}
 use Rattle.tj_words.specs.Words.Phases.{phase_in, phase_word}
 use Rattle.tj_words.specs.LawParts.RecordPhases.{WaitsFor}
+use Rattle.tj_words.specs.LawParts.PushedRecords.{put_last}
 use Rattle.tj_words.specs.SeatViews.SeatSteps.{IsOn, SeatMe, Tells}
 use Rattle.tj_words.specs.Calls.TakenRecords.{took_record, TakesRecord}
 use Rattle.tj_words.specs.SeatViews.Views.{noted_step, stepped_on}
@@ -108,11 +109,16 @@ module _ {B : Type 0} where
     GoesBack p way m m' = (r : Rec B) × (k : TakesRecord program t m.0 r) × WaitsFor r p
         × (m' ≡ (went_back t way (took_record r k.born k.more m.0), (t, Some r) ∷ m.1))
 
+    -- the slot of the task is the seat's, and in it lies the record that the seat put home last of the task
+    abbrev pub TakesAsPut : SeatMe B → SeatMe B → Type 0
+    TakesAsPut m m' = m'.1 ≡ (t, put_last m.0.put_home t) ∷ m.1
+
     -- what an exchange that succeeds makes of the seat
     pub record Swaps (was to : Phase) (m m' : SeatMe B) : Type 0 where
       pub claims : was ≡ Ready → Claims m m'
       pub wakes : (p : ℕ) (way : Way) → was ≡ parked_phase p way → to ≡ Ready → Wakes way m m'
       pub goes_back : (p : ℕ) (way : Way) → was ≡ parked_phase p way → to ≡ Running → GoesBack p way m m'
+      pub as_put : (p : ℕ) (way : Way) → was ≡ parked_phase p way → to ≡ Running → TakesAsPut m m'
 
     -- an exchange of PHASE: from Parked it doesn't fail; where it fails, the seat notes it with the number found
     abbrev pub phase_swap : ℕ → Tells B

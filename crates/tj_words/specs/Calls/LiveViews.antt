@@ -31,6 +31,17 @@ module _ {B : Type 0} where
   abbrev pub HasSlot : ℕ → SeatMe B → Type 0
   HasSlot t me = (o : Option (Rec B)) × (me.1 ≡ (t, o) ∷ rest me.1)
 
+  -- the records that a seat with these slots has put home, with those before it, by a step that gives the slot back
+  -- which it took last
+  abbrev pub put_with : SlotsOf B → List (Rec B) → List (Rec B)
+  put_with [] before = before
+  put_with ((t, None) ∷ slots) before = before
+  put_with ((t, Some r) ∷ slots) before = r ∷ before
+
+  -- a seat with these slots put the record home that lay in the slot which it took last
+  abbrev pub homed : SlotsOf B → View B → View B
+  homed slots v = record v { put_home = put_with slots v.put_home }
+
   -- the record of the task lies at home, and the seat has the task still
   abbrev pub now_home : Rec B → Custody B → Custody B
   now_home r k = record k { home = Some r }
@@ -47,7 +58,8 @@ module _ {B : Type 0} where
   abbrev pub raised_with : View B → SlotsOf B → SeatMe B
   raised_with v [] = (with_tokens (suc v.tokens) v, [])
   raised_with v ((t, None) ∷ slots) = (with_tokens (suc v.tokens) v, (t, None) ∷ slots)
-  raised_with v ((t, Some r) ∷ slots) = (came_home t r (with_tokens (suc v.tokens) v), slots)
+  raised_with v ((t, Some r) ∷ slots) =
+      (homed ((t, Some r) ∷ slots) (came_home t r (with_tokens (suc v.tokens) v)), slots)
 
   -- the same of a seat
   abbrev pub live_raised : SeatMe B → SeatMe B
@@ -57,7 +69,8 @@ module _ {B : Type 0} where
   abbrev pub lowered_with : View B → SlotsOf B → SeatMe B
   lowered_with v [] = (with_tokens (v.tokens - 1) v, [])
   lowered_with v ((t, None) ∷ slots) = (with_tokens (v.tokens - 1) v, (t, None) ∷ slots)
-  lowered_with v ((t, Some r) ∷ slots) = (without_task t (with_tokens (v.tokens - 1) v), slots)
+  lowered_with v ((t, Some r) ∷ slots) =
+      (homed ((t, Some r) ∷ slots) (without_task t (with_tokens (v.tokens - 1) v)), slots)
 
   -- the same of a seat
   abbrev pub live_lowered : SeatMe B → SeatMe B
@@ -155,4 +168,4 @@ module _ {B : Type 0} where
 
   -- the store of Ended into PHASE of t
   abbrev pub ended_store : ℕ → Tells B
-  ended_store t st m n m' = m' ≡ (ended t m.0, rest m.1)
+  ended_store t st m n m' = m' ≡ (homed m.1 (ended t m.0), rest m.1)

@@ -5,7 +5,7 @@ use Rattle.tj_body.specs.Programs.{Program}
 use Rattle.tj_words.specs.declared.phase.Phase.{Phase}
 use Rattle.tj_words.specs.declared.phase.Phase.TheVariants as phase
 use Rattle.tj_words.specs.Calls.DrawViews.{MayMark, marked_promise}
-use Rattle.tj_words.specs.Calls.LiveViews.{MayRelease, MayEnd, released, ended}
+use Rattle.tj_words.specs.Calls.LiveViews.{MayRelease, MayEnd, released, ended, homed}
 use Rattle.tj_words.specs.SeatViews.SeatSteps.{SeatMe}
 use Rattle.tj_words.specs.Calls.WaitViews.{MayPutWait, PutsWait}
 
@@ -28,11 +28,12 @@ module _ {B : Type 0} where
   MayPutPhase program t phase.Promise me = MayMark t me.0
   MayPutPhase program t (phase.Waiting c way walk) me = MayPutWait program t c.0 way walk me
 
-  -- what the store makes of the seat: where the task is parked or has ended, its slot is given back
+  -- what the store makes of the seat: where the task is parked or has ended, its slot is given back, and the record in
+  -- it is home
   abbrev pub PutsPhase : ℕ → Phase → SeatMe B → SeatMe B → Type 0
   PutsPhase t phase.Unborn me me' = ⊥
   PutsPhase t phase.Ready me me' = me' ≡ (released t me.0, me.1)
   PutsPhase t phase.Running me me' = ⊥
-  PutsPhase t phase.Ended me me' = me' ≡ (ended t me.0, rest me.1)
+  PutsPhase t phase.Ended me me' = me' ≡ (homed me.1 (ended t me.0), rest me.1)
   PutsPhase t phase.Promise me me' = me' ≡ (marked_promise me.0, me.1)
   PutsPhase t (phase.Waiting c way walk) me me' = PutsWait t c.0 way walk me me'

@@ -20,6 +20,7 @@ use Rattle.tj_words.specs.declared.view.Hand.{Hand}
 use Rattle.tj_words.specs.declared.view.View.{View}
 use Rattle.tj_words.specs.LawParts.Holding.{held_in}
 use Rattle.tj_words.specs.LawParts.LiveCount.{HasWakeToCome}
+use Rattle.tj_words.specs.Calls.LiveViews.{homed}
 use Rattle.tj_words.specs.Calls.ParkSteps.{new_push}
 use Rattle.tj_words.specs.Words.Phases.{phase_in}
 use Rattle.tj_words.specs.Calls.PutRecords.{PutsHome}
@@ -103,10 +104,10 @@ module _ {B : Type 0} where
   MayPutWait program t p way walk.Parked me = MayPark program t p way me
   MayPutWait program t p way walk.Alarmed me = MayStoreAlarm t p way me.0
 
-  -- what it makes of the seat: where the task is parked, its slot is given back
+  -- what it makes of the seat: where the task is parked, its slot is given back, and the record in it is home
   abbrev pub PutsWait : ℕ → ℕ → Way → Walk → SeatMe B → SeatMe B → Type 0
   PutsWait t p way walk.Walking me me' = me' ≡ (published t p way me.0, me.1)
-  PutsWait t p way walk.Parked me me' = me' ≡ (parked t p way me.0, rest me.1)
+  PutsWait t p way walk.Parked me me' = me' ≡ (homed me.1 (parked t p way me.0), rest me.1)
   PutsWait t p way walk.Alarmed me me' = me' ≡ (alarmed t p way me.0, me.1)
 
   -- what the store of this phase makes of the seat, where it is a wait

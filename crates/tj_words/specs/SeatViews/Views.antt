@@ -138,6 +138,7 @@ module _ {B : Type 0} where
     told = [];
     notes = [];
     records = [];
+    put_home = [];
   }
 
   -- a view is cut in two: the second seat has a lot of 4, and knows what the first one knows, but for that one's notes
@@ -160,7 +161,7 @@ module _ {B : Type 0} where
   }
 
   -- a seat takes another in, and knows what either of them knew, but for that one's notes and the records that its
-  -- steps took
+  -- steps took or put home
   abbrev pub both : View B → View B → View B
   both v w = record v {
     lot = v.lot + w.lot;

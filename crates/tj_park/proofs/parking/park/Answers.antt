@@ -5,7 +5,8 @@ use Rattle.tj_park.specs.ParkLogs.{MakesJoin}
 use Rattle.tj_park.proofs.Returns.{never_fails, not_ready}
 use Rattle.tj_park.proofs.Returns.{back_cleared, back_slot, back_slots, back_some, goes_back, takes_back}
 use Rattle.tj_park.proofs.ParkedViews.{parked_may, parked_push, parked_lower, parked_left, parked_back_may, parked_back}
-use Rattle.tj_park.proofs.ParkedViews.{parked_slots}
+use Rattle.tj_park.proofs.ParkedViews.{back_home, left_home, parked_slots}
+use Rattle.tj_park.proofs.ReturnedRecords.{returned, went_home}
 use Rattle.tj_park.proofs.parking.park.Goals as goal
 
 pub put_phase-requires-clause-may : goal.put_phase-requires-clause-may
@@ -72,6 +73,31 @@ returns-clause-back g c =
     c.if-join_chain.false
     (takes_back c.args.way b c.slot_swap-2.ensures.found c.slot_swap-2.ensures.me c.unwrap-rec.ensures
     c.lower.ensures.view c.lower.ensures.steps)
+
+pub returns-then-join_chain-clause-home : goal.returns-then-join_chain-clause-home
+returns-then-join_chain-clause-home g c =
+    let join = c.join_chain.ensures in
+    left_home c.args.laid.now.cells c.requires.may c.join_chain.new.seat.me c.slot_swap.ensures.me
+    c.put_phase.ensures.puts join.seat.2 join.looks join.steps join.pushes c.join_chain.result join.added join.closed
+    c.if-join_chain.true c.requires.others c.live_down.ensures.me
+
+pub returns-clause-home : goal.returns-clause-home
+returns-clause-home g c =
+    let join = c.join_chain.ensures in
+    let b = goes_back c.args.way c.swap_phase.result c.swap_phase.ensures.swapped c.swap_phase.ensures.found in
+    back_home c.args.laid.now.cells c.requires.may c.join_chain.new.seat.me c.slot_swap.ensures.me
+    c.put_phase.ensures.puts join.seat.2 join.looks join.steps join.pushes c.join_chain.result join.added join.closed
+    c.if-join_chain.false
+    (takes_back c.args.way b c.slot_swap-2.ensures.found c.slot_swap-2.ensures.me c.unwrap-rec.ensures
+    c.lower.ensures.view c.lower.ensures.steps)
+
+pub returns-clause-same : goal.returns-clause-same
+returns-clause-same g c =
+    let swaps = never_fails c.swap_phase.result _ _ (λ p h. not_ready c.args.q.0 c.args.way h.0)
+    c.swap_phase.ensures.swapped c.swap_phase.ensures.found in
+    returned c.args.way swaps c.slot_swap-2.ensures.found c.unwrap-rec.ensures _
+    (went_home c.slot_swap.ensures.me c.put_phase.ensures.puts c.join_chain.ensures.looks.put_home)
+    c.requires.may.leaves.has.cell
 
 pub returns-clause-back_slot : goal.returns-clause-back_slot
 returns-clause-back_slot g c =

@@ -31,7 +31,8 @@ park-requires-clause-may g c κs within = let x = c.block_at-way in
 pub returns-in-Alarm-clause-left : goal.returns-in-Alarm-clause-left
 returns-in-Alarm-clause-left g c = let x = c.block_at-way in
     λ e. leaves_shelved x.ensures.blocked c.in-Alarm.is c.shelve.new.seat.me
-    (c.shelve.ensures.me ∙ ap (λ (t : CellId). (shelved t.0 x.new.seat.me.0, rest x.new.seat.me.1)) c.cell-t.ensures)
+    (c.shelve.ensures.me
+    ∙ ap (λ (t : CellId). (shelved t.0 x.new.rec x.new.seat.me.0, rest x.new.seat.me.1)) c.cell-t.ensures)
 
 pub returns-in-Left : goal.returns-in-Left
 returns-in-Left g c = let x = c.block_at-way in record {

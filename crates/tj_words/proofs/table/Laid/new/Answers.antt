@@ -11,17 +11,17 @@ new-requires g c = (
       c.args.strict z)) (sym c.of.ensures) (c.points_in_rounds.ensures.start c.args.strict c.args.root c.requires.root))
       (subst (λ z. IsRooted (program_of g.B.Body.places g.B.Body.awaits g.B.Body.left g.B.Body.asks g.B.Body.then
       c.args.strict z)) (sym c.of.ensures) c.requires.root) refl _ c.in_ok-slots.slots.items
-      (c.as_slice.ensures.value ∙ c.in_ok-words.ensures)
+      c.words_at_first.ensures
       (c.in_ok-slots.ensures ∙ ap (λ z. first_slots c.args.cells z) (sym c.of.ensures)),
   (
-    c.as_slice.ensures.value ∙ c.in_ok-words.ensures,
+    c.words_at_first.ensures,
     c.in_ok-slots.ensures ∙ ap (λ z. first_slots c.args.cells z) (sym c.of.ensures),
   ),
 )
 
 pub invariant_of-result : goal.invariant_of-result
 invariant_of-result g c = let m = c.in-Ok.ensures.ok in record {
-  words = m.0 ∙ (ap (λ l. length l) (c.as_slice.ensures.value ∙ c.in_ok-words.ensures)
+  words = m.0 ∙ (ap (λ l. length l) c.words_at_first.ensures
       ∙ first_wide c.args.cells c.requires.some);
   slots = m.1 ∙ (ap (λ l. length l) c.in_ok-slots.ensures ∙ first_deep c.args.cells c.requires.some c.args.root);
   key_cells = ap (λ k. k.cells) m.5;
