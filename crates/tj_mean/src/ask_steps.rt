@@ -1,7 +1,9 @@
 //! What each ask makes of a point of a task's history.
-ghost use Rattle.std.specs.Prelude.{ℕ, suc, ◌≡◌, ◌<◌, ◌≤◌, ◌^◌, ◌∷◌, [], ◌++◌, length, map, false, IfOk};
+ghost use Rattle.std.specs.Prelude.{ℕ, suc, ◌≡◌, ◌<◌, ◌≤◌, ◌^◌, ◌∷◌, [], ◌++◌, length, map, false};
+ghost use Rattle.std.specs.Prelude.{IfErr, IfOk, Err, Ok};
 ghost use Rattle.tj_body.specs.Asks.{IsPaid, IsPlaced};
 ghost use Rattle.std.specs.List.{AllByRecursion};
+ghost use Rattle.std.specs.List.Sorted.{IsPermutation};
 ghost use Rattle.tj_body.specs.History as history;
 
 use crate::held_names::{index_of, sorted};
@@ -10,6 +12,7 @@ use std::mem::replace;
 use tj_base::{Cause, Items, Name, NameList, Oom, Pay, PlaceList, Sort, Trouble, path_before};
 use tj_body::{
     Answer, Ask, Body, Close, Entry, EntryList, Point, PointStage, Reference, Task, Value,
+    names_and_cells,
 };
 
 /// An equal reference.
@@ -144,36 +147,34 @@ fn names_at<B: Body>(alloc: Global, p: &Point<B>, places: &[u32]) -> Result<Name
     Ok(Items::of(names))
 }
 
-/// What is left of the promises held when these are handed from the left, or why that fails.
+/// What is left of the promises held when these are handed from the left, or why that fails, and
+/// the promises held, in some order. No name is copied: those handed are taken out, and put back.
 fn hand_all(
     alloc: Global,
-    holds: &[Name],
+    holds: NameList,
     handed: &[Reference],
-) -> Result<Result<NameList, Cause>, Oom>
-    ensures { IfOk result (λ left. left ≡ history.hand_all holds.now handed.now) }
+) -> Result<Result<NameList, (Cause, NameList)>, Oom>
+    ensures left { IfOk result (λ r. IfOk r (λ left. history.hand_all holds handed.now ≡ Ok left)) }
+    ensures fails { IfOk result (λ r. IfErr r (λ e. history.hand_all holds handed.now ≡ Err e.0)) }
+    ensures keeps { IfOk result (λ r. IfErr r (λ e. IsPermutation holds e.1)) }
 {
-    let mut left = copy_names(alloc, holds)?;
+    let mut left = holds.into_vec();
+    let mut taken = Vec::new(alloc);
     for reference in handed {
         if let Sort::Task = reference.sort {
-            return Ok(Err(Cause::Kind));
+            taken.append(&mut left)?;
+            return Ok(Err((Cause::Kind, Items::of(taken))));
         }
         match index_of(left.as_slice(), &reference.name) {
-            None => return Ok(Err(Cause::Owner(reference.name.copy(alloc)?))),
-            Some(at) => drop(left.remove(at)),
+            None => {
+                taken.append(&mut left)?;
+                let name = reference.name.copy(alloc)?;
+                return Ok(Err((Cause::Owner(name), Items::of(taken))));
+            }
+            Some(at) => taken.push(left.remove(at))?,
         }
     }
     Ok(Ok(Items::of(left)))
-}
-
-/// Equal names.
-fn copy_names(alloc: Global, names: &[Name]) -> Result<Vec<Name>, Oom>
-    ensures { IfOk result (λ copy. copy.items ≡ names.now) }
-{
-    let mut copy = Vec::new(alloc);
-    for name in names {
-        copy.push(name.copy(alloc)?)?;
-    }
-    Ok(copy)
 }
 
 /// What a Fork makes of the point.
@@ -191,15 +192,20 @@ fn fork<B: Body>(
     ensures { let ask = Ask.Fork body pass.now hand.now in
         IfOk result (λ _. p.new ≡ history.after_ask false ask p.old) }
 {
-    let handed = references_at(alloc, p, hand.items())?;
-    match hand_all(alloc, p.holds.items(), handed.as_slice())? {
-        Err(cause) => fail(alloc, p, cause),
+    let given = references_at(alloc, p, hand.items())?;
+    let holds = replace(&mut p.holds, Items::of(Vec::new(alloc)));
+    match hand_all(alloc, holds, given.as_slice())? {
+        Err((cause, held)) => {
+            names_and_cells();
+            p.holds = held;
+            fail(alloc, p, cause)
+        }
         Ok(left) => {
+            p.holds = left;
             let passed = Items::of(references_at(alloc, p, pass.items())?);
             let handed = names_at(alloc, p, hand.items())?;
             let place = p.references.items().len() as u32;
             let name = refer_to_next(alloc, p, Sort::Task)?;
-            p.holds = left;
             p.children.push(Task {
                 name,
                 body,
