@@ -35,6 +35,10 @@ WENT = ("task main() {\n  let p = new;\n  let q = new;\n  fork f(own p, -7);\n  
         "  fork h();\n  set p = 1;\n}\ntask f(p, n) { set p = n; set p = 2; }\ntask g(x) { set x = 3; }\n"
         "task h() { let r = new; fork k(own r, own r); }\ntask k(a, b) { }\n")
 
+# Two tasks that had handed their promises on, and two whose promises others set.
+WENT_ALIKE = ("task main() {\n  let i = 0;\n  while i < 2 { let p = new; fork f(own p); fork g(p); i = i + 1; }\n}\n"
+              "task f(p) { fork h(own p); set p = 1; }\ntask g(p) { set p = 2; }\ntask h(p) { set p = 3; }\n")
+
 # What a row shows, the words, a script, and the text.
 TOLD = (
     ("a promise owed", "", OWED,
@@ -54,6 +58,9 @@ TOLD = (
     ("promises of the first task before the second task", "--cells 4",
      "task main() { fork a(); fork a(); }\ntask a() { let i = 0; while i < 3 { let p = new; i = i + 1; } }\n",
      "full: more than 4 cells\n  3 of the first 5 made at 2:45\n"),
+    ("tasks each of which forks without end", "--cells 4096 --steps 9000",
+     "task main() { while 1 { fork f(); } }\ntask f() { while 1 { fork f(); } }\n",
+     "full: more than 4096 cells\n  4096 of the first 4097 made at 1:25\n"),
     ("just enough, and a promise that is owed at the closing brace", "--cells 3", OWES_AT_THE_BRACE,
      "owed: the promise 0.1 (p, made at 1:23) was never set: 0 (task main) owned it and ended at 1:40\n"),
     ("several tasks", "--short", SEVERAL,
@@ -123,6 +130,16 @@ TOLD = (
      "  0 (task main) waits at 5:3 for the promise 0.1 (p, made at 2:11), which 0 owns\n"
      "  behind a deadlock: 0.2, 0.3 and 28 more of task client (forked at 4:18) wait at 7:18 for the promise 0.1 "
      "(p, made at 2:11), which 0 owns\n"),
+    ("where promises went at one statement each, of failures that are alike", "--short", WENT_ALIKE,
+     "failed: 0.2 and 0.5 of task f (forked at 3:30) at 5:28: owner (p, made at 3:25), each handed on at 5:13\n"
+     "failed: 0.3 and 0.6 of task g (forked at 3:45) at 6:13: owner (p, made at 3:25), each set by another at 7:13\n"),
+    ("promises that several others own, each of whom waits for its own", "--short",
+     "task main() {\n  let i = 0;\n  while i < 2 {\n    let p = new;\n    fork keep(own p);\n    fork poke(p);\n"
+     "    i = i + 1;\n  }\n}\ntask keep(p) { get p; }\ntask poke(p) { set p = 1; }\n",
+     "failed: 0.3 and 0.6 of task poke (forked at 6:5) at 11:16: owner (p, made at 4:13), "
+     "each owned by another where it stopped\n"
+     "deadlock: 2 times 1 task waits for itself\n"
+     "  0.2 and 0.5 of task keep (forked at 5:5) wait at 10:16 for promises (p, made at 4:13)\n"),
     ("many failures, their debts, and cycles that are alike", "--short", CROWD,
      "deadlock: 2 times 1 task waits for itself\n"
      "  0.4 and 0.5 of task loner wait at 8:29 for promises (p, made at 8:24)\n"
@@ -153,7 +170,7 @@ TOLD = (
     ("promises that went to two tasks, which owed them", "--short",
      "task main() {\n  fork f();\n  fork f();\n}\ntask f() {\n  let p = new;\n  fork g(own p);\n  set p = 2;\n}\n"
      "task g(p) { }\n",
-     "failed: 0.1 and 0.2 of task f at 8:3: owner (p, made at 6:11)\n"
+     "failed: 0.1 and 0.2 of task f at 8:3: owner (p, made at 6:11), each handed on at 7:3\n"
      "owed: the promises 0.1.1 and 0.2.1 (p, made at 6:11) were never set: task g owned each and ended at 10:13\n"),
     ("source lines below a cycle's members, and none below a wait behind it", "", DEADLOCK,
      "deadlock: 2 tasks wait for each other\n"

@@ -12,6 +12,7 @@ use Rattle.tj_syntax.specs.Trees.{Task}
 use Rattle.tj_trace.specs.SpotLaws.{HasPlace}
 use Rattle.tj_trace.proofs.MostPlaced.{most_has_a_place}
 use Rattle.tj_forest.proofs.Placed.{main_right}
+use Rattle.tj_explain.proofs.FullStands.{all_there}
 use Rattle.tj_explain.proofs.Readings.{one_command}
 use Rattle.tj_explain.proofs.ToldFindings.{no_full}
 use Rattle.tj_explain.specs.FullPlaces.{TellsFull, TextsTellFull}
@@ -43,6 +44,7 @@ module _ (of_tokens : PlacesAreOfTokens) (command : WhyCommand) (input : List �
         full = full;
         most = most;
         made = made;
+        stood = all_there strict root made.round made.others made.makers made.are_made;
         stands = of_tokens input script is most.maker.decl most.maker.at (subst (λ s. (d : IsProgram is.is_script.notes s)
             → HasPlace (places_of is.tokens (in_tasks d 0)) most.maker.decl most.maker.at)
             facts.1 there is.is_script.derived);

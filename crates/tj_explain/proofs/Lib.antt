@@ -11,3 +11,7 @@ mod ToldOutcomes
 mod Counts
 pub mod FullPlaces
 mod PlacesThere
+mod GroupsTold
+mod FullStands
+mod NamesPlain
+mod SceneLines

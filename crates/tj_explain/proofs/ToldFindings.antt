@@ -283,7 +283,11 @@ module _ (leads : (strict : Bool) (root : PlacedState) → WaitsLeadToToldCycles
             causes = λ t i. absurd i;
             follow = λ t i g j. absurd i;
             no_strays = refl;
-            turn = record { debts_last = λ x y p d. absurd p; refused_first = λ w t q m p n i. absurd p };
+            turn = record {
+              debts_last = λ x y p d. absurd p;
+              refused_first = λ w t q m p n i. absurd p;
+              cycles_first = λ t c m w p. absurd p;
+            };
           };
           fine = ((λ z. unmarked), (λ z. refl));
           told = refl;

@@ -7,3 +7,5 @@ pub mod ToldFindings
 pub mod FullTexts
 pub mod FullPlaces
 pub mod PlaceLaws
+pub mod GroupsTold
+pub mod SceneLines

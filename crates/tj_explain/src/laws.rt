@@ -3,6 +3,7 @@ ghost use Rattle.std.specs.Prelude.{ℕ, ◌≡◌, List, String};
 ghost use Rattle.std.specs.declared.alloc.Global.{Global};
 ghost use Rattle.tj_command.specs.declared.status.Status.{Status};
 ghost use Rattle.tj_explain.specs.FullPlaces.{TextsTellFull};
+ghost use Rattle.tj_explain.specs.GroupsTold.{GroupsTellEachFinding};
 ghost use Rattle.tj_explain.specs.ToldFindings.{TextsTellFindings};
 ghost use Rattle.tj_explain.specs.WhyOutput.{IsOutput};
 
@@ -29,8 +30,9 @@ pub fn texts_tell_findings()
     // reason; else objects leave nothing out. There are no findings exactly where the status says so.
     // What tj_forest's laws say of lists of findings holds of those of the forest, and each consequence
     // stands below its cause. Among causes promises owed by ended tasks come last, and a set that was
-    // refused comes before each cycle in which a task waits for its cell. What made a cell is told with
-    // a failure only if its cause names one.
+    // refused comes before each cycle in which a task waits for its cell. A failure comes before a cycle
+    // only if it is such a set, for whose cell a task of this cycle waits, or of one before it. What made
+    // a cell is told with a failure only if its cause names one.
     ensures { TextsTellFindings }
 {
     waits_lead_to_told_cycles();
@@ -41,9 +43,18 @@ pub fn texts_tell_findings()
 pub fn texts_tell_full()
     // Law: an output whose status is that of a run which needs more cells than the limit is of a script
     // that does. The statement which it tells below `full`, or in the object, made most of the first
-    // cells, one more than the limit, of the first round that has more. The position that is told of it is
-    // that of a token of the input: of its ask, or of the closing brace.
+    // cells, one more than the limit, of the first round that has more. Each of these but the root's
+    // result is a thing that a task of this round made, and the history of this task then stood at the
+    // statement that is counted for it. The position that is told is that of a token of the input: of
+    // the statement's ask, or of the closing brace.
     ensures { TextsTellFull }
 {
     places_are_of_tokens();
 }
+
+/// What a text tells at once are the findings of its forest, each as often as the forest has it.
+pub fn groups_tell_each_finding()
+    // Law: the findings that a text tells together, level by level, are those of the forest, causes and
+    // what follows from them, each as often as the forest has it. So is it with `--all` and without.
+    ensures { GroupsTellEachFinding }
+{}

@@ -13,9 +13,10 @@ mod usage;
 mod why;
 mod words;
 
-pub use laws::{one_output, texts_tell_findings, texts_tell_full};
+pub use laws::{groups_tell_each_finding, one_output, texts_tell_findings, texts_tell_full};
 pub use line::{WhyCommand, command_of};
 pub use place_laws::places_are_of_tokens;
+pub use scene_laws::scenes_tell_lines;
 pub use telling::Telling;
 pub use told::told_of_text;
 pub use top_call::why_words;
@@ -24,3 +25,4 @@ pub use words::why_given;
 mod full_lines;
 mod parsed;
 mod place_laws;
+mod scene_laws;

@@ -5,7 +5,7 @@ ghost use Rattle.tj_body.specs.Rounds.{IsFull, meaning};
 ghost use Rattle.tj_command.specs.Inputs.{IsReadOf};
 ghost use Rattle.tj_command.specs.Limits.{AreLimits};
 ghost use Rattle.tj_syntax.specs.ScriptTexts.{IsMemory, most_bytes};
-ghost use Rattle.tj_eval.specs.Stands.{IsPlacedMain, PlacedState};
+ghost use Rattle.tj_eval.specs.Stands.{IsPlacedMain, PlacedState, StandsRight};
 ghost use Rattle.tj_eval.specs.Stands.{placed_awaits, placed_left, placed_places};
 ghost use Rattle.tj_mean.specs.Outcomes.{IsOutcome};
 ghost use Rattle.tj_ports.specs.Reading.{IsWithin};
@@ -34,7 +34,7 @@ use tj_lex::{Token, tokens};
 use tj_mean::{Outcome, PlanFault, marked};
 use tj_ports::ReadEnd;
 use tj_syntax::{NoScript, Script, places, position_behind};
-use tj_trace::{TraceLine, most_made, outcome_of_lines, trace};
+use tj_trace::{TraceLine, most_of_script, outcome_of_lines, trace};
 
 /// What is told of an input, where this was read of it.
 pub fn told_of(alloc: Global, command: WhyCommand, input: &ReadEnd) -> Result<Output, Oom>
@@ -145,13 +145,15 @@ fn told_full(
 ) -> Result<Output, Oom>
     requires limits { AreLimits command.limits }
     requires root { IsFresh placed_places placed_awaits placed_left 1 root.now }
+    requires right { StandsRight root.now }
+    requires script { root.now.task.script ≡ view.script script.now }
     requires full { IsFull (script_program command.limits.strict root.now) command.limits.cells }
     ensures { IfOk result (λ output. IsToldRun command text.now (view.script script.now) tokens.now
         root.now output.status output.text.items) }
 {
     let Limits { cells, strict, .. } = command.limits;
     // There is a first round with more cells.
-    let found = most_made(alloc, root, cells, strict)?;
+    let found = most_of_script(alloc, script, root, cells, strict)?;
     let Some(most) = found else {
         return Err(Oom);
     };

@@ -67,6 +67,7 @@ use Rattle.tj_forest.proofs.NotedThings.{same_number, thing_at}
 use Rattle.tj_forest.proofs.NamedCells.{CauseNamed, FailsNamed, fails_named}
 use Rattle.tj_forest.proofs.Origins.{closed_of}
 use Rattle.tj_forest.proofs.Placed.{found_in, main_right, maker_in, of_lines, split_name}
+use Rattle.tj_forest.proofs.PlacedTasks.{of_placed}
 use Rattle.tj_forest.proofs.ToldOnce.{link_says}
 use Rattle.tj_forest.specs.CellsTold.{CellsAreToldRight, IsCellToldRight, cells_in, cells_named, named_in, task_cell}
 use Rattle.tj_forest.specs.Positions.{tasks_in}
@@ -241,7 +242,15 @@ module _ (strict : Bool) (root : PlacedState) (fresh : IsFresh script_places scr
         → IsIn q (cells program n)
         → IsCellToldRight root.task.script (places_of tokens (in_tasks derived 0)) (placed_program strict root) N
         (told_cell lines q)
-    cell_right tokens notes derived q i = record { made = made; stood = stood } where
+    cell_right tokens notes derived q i = record {
+      root = unmade;
+      made = made;
+      is_task = is_task;
+      stood = stood;
+    } where
+      unmade : q ≡ [] → maker_of lines q ≡ None
+      unmade e = ap (maker_of lines) e
+
       found : ¬ (q ≡ []) → (o : Maker) × (maker_of lines q ≡ Some o)
       found some = let z : n ≡ suc (2 * N) = omega arith in
           made_of (2 * N) (omega arith) q some (subst (λ k. IsIn q (cells program k)) z i)
@@ -259,30 +268,38 @@ module _ (strict : Bool) (root : PlacedState) (fresh : IsFresh script_places scr
             (lines_have_places strict root N lines right traced tokens notes derived l.0 l.1).1 f.0 l.2,
           )
 
+      -- the line of the task that made the cell
+      line_there : (x : Name) (k : ℕ) → q ≡ child x (suc k) → (l : TraceLine) × (line_of lines x ≡ Some l)
+      line_there x k e =
+          by (line_of lines x) refl where
+            f : (o : Maker) × (maker_of lines q ≡ Some o)
+            f = found (λ z. no_root x (suc k) (sym e ∙ z))
+
+            by : (o : Option TraceLine) → line_of lines x ≡ o → (l : TraceLine) × (line_of lines x ≡ Some l)
+            by None none =
+                absurd (let z : ◌≡◌ {A = Option Maker} None (Some f.0) =
+                sym (ap (maker_of lines) e ∙ looked_up lines x (suc k) ∙ ap (λ o. made_by o (suc k)) none) ∙ f.1 in cc)
+            by (Some l) is = (l, is)
+
+      is_task : (x : Name) (k : ℕ) → q ≡ child x (suc k)
+          → (t : Task PlacedState) × IsIn t (tasks (placed_program strict root) n) × (t.name ≡ x)
+      is_task x k e =
+          let l = line_there x k e in
+          let u = of_placed strict root N lines traced l.0
+          (found_in (λ (l : TraceLine). same l.line.name x) lines l.0 l.1) in
+          (u.0, u.1, sym u.2 ∙ named_by x l.0 lines l.1)
+
       stood : (x : Name) (k : ℕ) → q ≡ child x (suc k) → (t : Task PlacedState)
           → IsIn t (tasks (placed_program strict root) n) → t.name ≡ x
           → let p = placed_program strict root in
           slice_get (made_until p.rules (given p n) t (2 * suc (p.rules.left t.body))) k ≡ maker_of lines q
       stood x k e t there name =
-          by (line_of lines x) refl where
-            f : (o : Maker) × (maker_of lines q ≡ Some o)
-            f = found (λ z. no_root x (suc k) (sym e ∙ z))
-
-            at_line : maker_of lines q ≡ made_by (line_of lines x) (suc k)
-            at_line = ap (maker_of lines) e ∙ looked_up lines x (suc k)
-
-            by : (o : Option TraceLine) → line_of lines x ≡ o
-                → let p = placed_program strict root in
-                slice_get (made_until p.rules (given p n) t (2 * suc (p.rules.left t.body))) k ≡ maker_of lines q
-            by None none =
-                absurd (let z : ◌≡◌ {A = Option Maker} None (Some f.0) =
-                sym (at_line ∙ ap (λ o. made_by o (suc k)) none) ∙ f.1 in cc)
-            by (Some l) is =
-                let j = found_in (λ (l : TraceLine). same l.line.name x) lines l is in
-                let line = lines_are_of_stands strict root N lines traced l j t there
-                (named_by x l lines is ∙ sym name) in
-                ap (λ ms. slice_get ms k) (sym line.makers)
-                ∙ sym (at_line ∙ ap (λ o. made_by o (suc k)) is)
+          let l = line_there x k e in
+          let j = found_in (λ (l : TraceLine). same l.line.name x) lines l.0 l.1 in
+          let line = lines_are_of_stands strict root N lines traced l.0 j t there
+          (named_by x l.0 lines l.1 ∙ sym name) in
+          ap (λ ms. slice_get ms k) (sym line.makers)
+          ∙ sym (ap (maker_of lines) e ∙ looked_up lines x (suc k) ∙ ap (λ o. made_by o (suc k)) l.1)
 
 -- the law
 pub cells_are_told_right : CellsAreToldRight

@@ -36,7 +36,7 @@ use Rattle.tj_forest.proofs.Claims.{Claims, kept, one_claims, result, waits_owe_
 use Rattle.tj_forest.proofs.CycleOwners.{members_told}
 use Rattle.tj_forest.proofs.ChainEnds.{origin_begins}
 use Rattle.tj_forest.proofs.FirstEchoes.{HasChain, echoes_none, has_chain}
-use Rattle.tj_forest.proofs.InTurn.{in_turn}
+use Rattle.tj_forest.proofs.CyclesFirst.{in_turn}
 use Rattle.tj_forest.proofs.LedOn.{IsLed, led_on}
 use Rattle.tj_forest.proofs.Origins.{Broke, IsFirst, by_debt, by_failure, came_from, origin_there, stopped_so}
 use Rattle.tj_forest.proofs.Roots.{IsCauseOf, a_cycle, a_debt, a_failure, bare_roots, cause_of, cycle_is_cause}
@@ -51,6 +51,7 @@ use Rattle.tj_findings.specs.Findings.{told_cycle, told_debt, told_echo, told_fa
 use Rattle.tj_findings.specs.Forests.{Forest, Tree, after_chain, after_cycle, after_failure, bare, begun_at, begun_by}
 use Rattle.tj_findings.specs.Forests.{begun_with, cause_from, causes, consequences, first_echo, follow, forest_of, led_to}
 use Rattle.tj_findings.specs.Forests.{names_of_cause}
+use Rattle.tj_findings.specs.Searches.{line_of}
 use Rattle.tj_findings.specs.declared.finding.Finding.{Finding}
 use Rattle.tj_findings.specs.declared.finding.Finding.TheVariants as finding
 use Rattle.tj_findings.specs.declared.finding.Wait.{Wait}
@@ -429,6 +430,10 @@ module _ (strict : Bool) (root : PlacedState) (N : ℕ) (places : List PlacesOfT
   -- the forest is in order
   pub in_order : IsInOrder ps places (forest_of places lines o.cycles)
   in_order =
+      let found : (c : List Link) → IsIn c o.cycles → (k : Link) → IsIn k c
+      → (l : TraceLine) × (line_of lines k.task ≡ Some l) × (l.line.name ≡ k.task) =
+      λ c there k i. link_found strict root N lines o traced out k
+      (in_flat_map (λ (c : List Link). c) c k o.cycles there i) in
       let start : Forest = record { trees = map bare cs; strays = [] } in
       let h = all_below (FollowsFrom ps) cs (consequences lines o.cycles) start known_all
       (record { roots = bare_roots cs; followed = bare_followed cs; no_strays = refl }) in
@@ -436,5 +441,5 @@ module _ (strict : Bool) (root : PlacedState) (N : ℕ) (places : List PlacesOfT
         causes = roots_are_causes places lines o.cycles;
         follow = λ t i g j. followed_in (FollowsFrom ps) (forest_of places lines o.cycles).trees h.followed t i g j;
         no_strays = h.no_strays;
-        turn = subst (AreInTurn places) (sym (roots_of places lines o.cycles)) (in_turn places lines o.cycles);
+        turn = subst (AreInTurn places) (sym (roots_of places lines o.cycles)) (in_turn places lines o.cycles found);
       }

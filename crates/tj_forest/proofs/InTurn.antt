@@ -21,7 +21,7 @@ use Rattle.tj_trace.specs.declared.line.TraceLine.{TraceLine}
 use Rattle.tj_forest.proofs.CausesSorted.{below_in}
 use Rattle.tj_forest.proofs.Forests.{all_below}
 use Rattle.tj_forest.proofs.RanksBefore.{AreRanked, alike, before_either, first_in, lower, ranked_before, second_in}
-use Rattle.tj_forest.specs.CauseOrder.{AreInTurn, IsDebt, StandsBefore, StoppedAtNoAsk, cells_of}
+use Rattle.tj_forest.specs.CauseOrder.{IsDebt, StandsBefore, StoppedAtNoAsk, cells_of}
 use Rattle.tj_findings.specs.Findings.{failed, failed_with, is_owing, link_wait, owed, told_cycle, told_debt}
 use Rattle.tj_findings.specs.Findings.{told_failure, told_task, wait_by}
 use Rattle.tj_findings.specs.Forests.{awaited_from, causes, not_owned, rank, ranked_causes, ranked_from}
@@ -68,7 +68,7 @@ module _ (lines : List TraceLine) where
     by rest (Some l) (inr j) = inr (rest j)
 
   -- a cycle with its rank: the first cycle in which a task waits for one of its cells has no greater one
-  cycle_of : (n : ℕ) (cs : List (List Link)) (r : ℕ) (f : Finding)
+  pub cycle_of : (n : ℕ) (cs : List (List Link)) (r : ℕ) (f : Finding)
       → IsIn (r, f) (ranked_from n (map (told_cycle lines) cs))
       → (c : List Link) × (f ≡ told_cycle lines c) × (n ≤ r)
       × ((q : Name) → has q (map (λ (k : Link). k.cell) c) ≡ true
@@ -103,19 +103,19 @@ module _ (lines : List TraceLine) where
         by q least m false = m
 
 module _ (places : List PlacesOfTask) (lines : List TraceLine) (cycles : List (List Link)) where
-  abbrev failures : List (ℕ × Finding)
+  abbrev pub failures : List (ℕ × Finding)
   failures = flat_map (λ l. map (λ f. (rank places cycles l, f)) (failed lines l)) lines
 
-  abbrev told_cycles : List (ℕ × Finding)
+  abbrev pub told_cycles : List (ℕ × Finding)
   told_cycles = ranked_from 0 (map (told_cycle lines) cycles)
 
-  abbrev debts : List (ℕ × Finding)
+  abbrev pub debts : List (ℕ × Finding)
   debts = map (λ f. (length cycles, f)) (flat_map (owed lines true) lines)
 
-  abbrev all : List (ℕ × Finding)
+  abbrev pub all : List (ℕ × Finding)
   all = ranked_causes places lines cycles
 
-  of_failure : (r : ℕ) (f : Finding) → IsIn (r, f) failures
+  pub of_failure : (r : ℕ) (f : Finding) → IsIn (r, f) failures
       → (l : TraceLine) × (r ≡ rank places cycles l)
       × ((c : Cause) × (l.line.ending ≡ ending.Failed c) × (f ≡ told_failure lines l c))
   of_failure r f i =
@@ -124,7 +124,7 @@ module _ (places : List PlacesOfTask) (lines : List TraceLine) (cycles : List (L
       let c = failed_of lines l.0 l.0.line.ending g.0 g.1 in
       (l.0, ap (λ (z : ℕ × Finding). z.0) g.2, (c.0, c.1, ap (λ (z : ℕ × Finding). z.1) g.2 ∙ c.2))
 
-  of_debt : (r : ℕ) (f : Finding) → IsIn (r, f) debts → (r ≡ length cycles) × IsDebt f
+  pub of_debt : (r : ℕ) (f : Finding) → IsIn (r, f) debts → (r ≡ length cycles) × IsDebt f
   of_debt r f i =
       let g = in_map (λ (f : Finding). (length cycles, f)) (r, f) (flat_map (owed lines true) lines) i in
       let l = from_flat_map (owed lines true) g.0 lines g.1 in (
@@ -140,7 +140,7 @@ module _ (places : List PlacesOfTask) (lines : List TraceLine) (cycles : List (L
     by (inl j) = let l = of_failure r f j in subst IsDebt l.2.2 d
     by (inr j) = let c = cycle_of lines 0 cycles r f j in subst IsDebt c.1 d
 
-  debt_last : (x y : Finding) → StandsBefore x y (causes places lines cycles) → IsDebt x → IsDebt y
+  pub debt_last : (x y : Finding) → StandsBefore x y (causes places lines cycles) → IsDebt x → IsDebt y
   debt_last x y p d = by (ranked_before all x y (suc (length cycles)) p) where
     last : (r s : ℕ) → r < s → IsIn (s, y) all
         → IsIn (r, x) (failures ++ told_cycles) ⊎ IsIn (r, x) debts → IsDebt y
@@ -187,7 +187,7 @@ module _ (places : List PlacesOfTask) (lines : List TraceLine) (cycles : List (L
         let c = cycle_of lines 0 cycles r failure i in
         let e : failure ≡ finding.Cycle _ = c.1 in cc
 
-    cycle_there : (r : ℕ) → IsIn (r, cycle) all → IsIn (r, cycle) told_cycles
+    pub cycle_there : (r : ℕ) → IsIn (r, cycle) all → IsIn (r, cycle) told_cycles
     cycle_there r i = by (in_either (r, cycle) (failures ++ told_cycles) debts i) where
       first : IsIn (r, cycle) failures ⊎ IsIn (r, cycle) told_cycles → IsIn (r, cycle) told_cycles
       first (inl j) = absurd (no_failure r j)
@@ -231,7 +231,7 @@ module _ (places : List PlacesOfTask) (lines : List TraceLine) (cycles : List (L
               → finding.Failed a c x ≡ finding.Failed b d y → (a ≡ b) × (c ≡ d)
           same_parts a b c d x y e = (cc, cc)
 
-      refused_before : StandsBefore cycle failure (causes places lines cycles) → ⊥
+      pub refused_before : StandsBefore cycle failure (causes places lines cycles) → ⊥
       refused_before p = by (ranked_before all cycle failure (suc (length cycles)) p) where
         first : (r : ℕ) → StandsBefore (r, cycle) (r, failure) failures
             ⊎ ((IsIn (r, cycle) failures × IsIn (r, failure) told_cycles)
@@ -250,10 +250,3 @@ module _ (places : List PlacesOfTask) (lines : List TraceLine) (cycles : List (L
         by : AreRanked all cycle failure → ⊥
         by (lower r s less i j) = not_lower r s less (cycle_there r i) (failure_there s j)
         by (alike r z) = along r (before_either (r, cycle) (r, failure) (failures ++ told_cycles) debts z)
-
-  -- the causes are in turn
-  pub in_turn : AreInTurn places (causes places lines cycles)
-  in_turn = record {
-    debts_last = debt_last;
-    refused_first = λ waits t q m p none awaited. refused_before waits t q m none awaited p;
-  }

@@ -34,10 +34,11 @@ mod ChainEnds
 pub mod WentsRight
 pub mod ReasonsTold
 mod NotedThings
-mod PlacedTasks
+pub mod PlacedTasks
 mod HandedTwice
 mod OwnersKept
 pub mod LetsTold
 mod PromisesKept
 mod RanksBefore
 mod InTurn
+mod CyclesFirst

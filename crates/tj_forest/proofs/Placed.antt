@@ -197,6 +197,7 @@ module _ (root : PlacedState) (right : StandsRight root) (tokens : List Token) (
         declared = declared_where root.task.script l.decl l.at l.line.ending is.stands;
         stopped = (l.line.ending, so, refl, is.stands);
         stands = (there l i).0;
+        root = λ e. ap (maker_of lines) e;
         forked = forked_by l i l.line.name refl;
         fork_stands = λ m e. let k = maker_in lines l.line.name m e in (there k.0 k.1).1 m k.2;
       }

@@ -55,7 +55,7 @@ use Rattle.tj_trace.proofs.Seen.{is_full_alike}
 use Rattle.tj_trace.proofs.SetsThere.{place}
 use Rattle.tj_forest.proofs.OwnersKept.{without_notes}
 use Rattle.tj_forest.proofs.PlacedTasks.{placed_seen}
-use Rattle.tj_forest.specs.WentLaws.{NobodySet, OwnedAtEnd, kept_at, set_note}
+use Rattle.tj_forest.specs.WentLaws.{OwnedAtEnd, kept_at, set_note, sets_of}
 
 module _ {B : Type 0} where
   -- it was written since, or else it is what a task writes as it ends: its result, and what it then owes
@@ -342,7 +342,9 @@ module _ (strict : Bool) (root : PlacedState) (fresh : IsFresh script_places scr
   owned_kept q t (stage.Closed e) i = absurd i
 
   -- each promise was set, or owned where its owner stopped
-  pub set_or_owned : (q : Name) → IsNamed program_of_lines sort.Promise q → NobodySet strict root N q
+  pub set_or_owned : (q : Name) → IsNamed program_of_lines sort.Promise q
+      → ((u : Task PlacedState) → IsIn u (tasks (placed_program strict root) (last_round N))
+      → (n : SetNote) → IsIn n (sets_of strict root N u) → n.promise ≡ q → ⊥)
       → ((y : Name) → OwnedAtEnd strict root N y q → ⊥) → ⊥
   set_or_owned q named unset unowned =
       by (owns_or_wrote program_of_lines.rules final q x.0 x.2) where

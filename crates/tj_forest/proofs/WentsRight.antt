@@ -13,7 +13,7 @@ use Rattle.tj_body.specs.Rounds.{meaning}
 use Rattle.tj_body.specs.SeenAs.{point_as, task_as}
 use Rattle.tj_body.specs.declared.point.Point.{Point}
 use Rattle.tj_body.specs.declared.point.Task.{Task}
-use Rattle.tj_body.specs.Rounds.{IsFull, given, last_round}
+use Rattle.tj_body.specs.Rounds.{IsFull, given, last_round, tasks}
 use Rattle.tj_body.proofs.Counts.{has_of_times, same_is, same_self, times_of_in}
 use Rattle.tj_body.proofs.Lists.{from_flat_map, in_map, to_map}
 use Rattle.tj_body.proofs.Rounds.Families.{same_name}
@@ -33,6 +33,7 @@ use Rattle.tj_syntax.specs.Starts.{in_tasks}
 use Rattle.std.specs.List.{flat_map}
 use Rattle.tj_trace.specs.HandLaws.{handed_to}
 use Rattle.tj_trace.specs.Logs.{Logged, erased, logged_program}
+use Rattle.tj_trace.specs.MadeAt.{placed_program}
 use Rattle.tj_trace.specs.Lookups.{kept_by, maker_at}
 use Rattle.tj_trace.specs.SpotLaws.{HasPlace}
 use Rattle.tj_trace.specs.TraceLaws.{script_program}
@@ -232,10 +233,14 @@ module _ (strict : Bool) (root : PlacedState) (fresh : IsFresh script_places scr
 
   -- a task whose line tells no set of the promise never set it
   never_set : (l : TraceLine) → IsIn l lines → (q : Name) → set_in l q ≡ None → NeverSet strict root N l.line.name q
-  never_set l i q e u j f n there is =
-      let line = lines_are_of_stands strict root N lines traced l i u j f in
-      not_found (λ (m : SetNote). same m.promise q) l.sets n e (subst (IsIn n) (sym line.sets) there)
-      (ap (λ x. same x q) is ∙ same_self q)
+  never_set l i q e =
+      let t = of_placed strict root N lines traced l i in (
+        (t.0, (t.1, t.2)),
+        λ u j n there is.
+            let line = lines_are_of_stands strict root N lines traced l i u j.0 j.1 in
+            not_found (λ (m : SetNote). same m.promise q) l.sets n e (subst (IsIn n) (sym line.sets) there)
+            (ap (λ x. same x q) is ∙ same_self q),
+      )
 
   -- and one whose line tells that it was never handed on never handed it on
   never_handed : (l : TraceLine) → IsIn l lines → (q : Name) → hand_in l q ≡ None
@@ -256,21 +261,33 @@ module _ (strict : Bool) (root : PlacedState) (fresh : IsFresh script_places scr
             (ap (λ x. same x q) (ap (λ (z : Name × Name). z.1) (sym m.2)) ∙ same_self q),
       )
 
-  -- where the lines tell no setter, nobody set it
-  nobody_set : (q : Name) → setter_of lines q ≡ None → NobodySet strict root N q
-  nobody_set q e u j n there is =
+  -- no task that knows its stand set the promise
+  abbrev Unset : Name → Type 0
+  Unset q = (u : Task PlacedState) → IsIn u (tasks (placed_program strict root) (last_round N))
+      → (n : SetNote) → IsIn n (sets_of strict root N u) → n.promise ≡ q → ⊥
+
+  -- where the lines tell no setter, none did
+  unset : (q : Name) → setter_of lines q ≡ None → Unset q
+  unset q e u j n there is =
       let l = to_placed strict root N lines traced u j in
       let line = lines_are_of_stands strict root N lines traced l.0 l.1 u j l.2 in
       not_found (λ (m : TraceLine). has q (sets_by m)) lines l.0 e l.1
       (has_in q (sets_by l.0) (subst (λ x. IsIn x (sets_by l.0)) is
       (to_map (λ (m : SetNote). m.promise) n l.0.sets (subst (IsIn n) (sym line.sets) there))))
 
+  -- so no task of the meaning did
+  nobody_set : (q : Name) → setter_of lines q ≡ None → NobodySet strict root N q
+  nobody_set q e p i =
+      let l = to_line strict root N lines o traced out p i in
+      let t = of_placed strict root N lines traced l.0 l.1 in
+      ((t.0, (t.1, l.2.name ∙ t.2)), λ u j n there is. unset q e u j.0 n there is)
+
   -- where they tell neither a setter nor an owner, no task can have failed for the promise
   nobody : (l : TraceLine) → IsIn l lines → (q : Name) → l.line.ending ≡ ending.Failed (cause.Owner q)
-      → NobodySet strict root N q → owner_of lines q ≡ None → ⊥
-  nobody l i q ends unset e =
+      → setter_of lines q ≡ None → owner_of lines q ≡ None → ⊥
+  nobody l i q ends none e =
       set_or_owned strict root fresh N room lines traced q
-      (of_failure strict root fresh N room lines traced l i (cause.Owner q) ends) unset
+      (of_failure strict root fresh N room lines traced l i (cause.Owner q) ends) (unset q none)
       (λ y own. let m = keeps_line strict root N lines traced y q own in
       not_found (λ (m : TraceLine). has q (kept_by m)) lines m.0 e m.1 (has_in q (kept_by m.0) m.2))
 
@@ -287,18 +304,18 @@ module _ (strict : Bool) (root : PlacedState) (fresh : IsFresh script_places scr
         let t : false ≡ true = sym is ∙ owed in cc
 
     -- the task itself neither owed the promise nor set it nor handed it on
-    module _ (clear : NeverOwed strict root N l.line.name q) (unset : NeverSet strict root N l.line.name q)
+    module _ (clear : NeverOwed strict root N l.line.name q) (never : NeverSet strict root N l.line.name q)
         (kept : NeverHandedOn strict root N l.line.name q) where
       -- who owned it
-      by_owner : (m : Option TraceLine) → owner_of lines q ≡ m → NobodySet strict root N q
+      by_owner : (m : Option TraceLine) → owner_of lines q ≡ m → setter_of lines q ≡ None
           → Right (or_else (option_map (λ (l : TraceLine). went.OwnedBy l.line.name) m) went.Nowhere)
       by_owner None is none = absurd (nobody l there q ends none is)
-      by_owner (Some m) is none = (clear, (unset, (kept, (none, owner_found m q is))))
+      by_owner (Some m) is none = (clear, (never, (kept, (nobody_set q none, owner_found m q is))))
 
       -- who set it
       by_other : (m : Option TraceLine) → setter_of lines q ≡ m → Right (or_else (by_setter m q)
           (or_else (option_map (λ (l : TraceLine). went.OwnedBy l.line.name) (owner_of lines q)) went.Nowhere))
-      by_other None is = by_owner (owner_of lines q) refl (nobody_set q is)
+      by_other None is = by_owner (owner_of lines q) refl is
       by_other (Some m) is = by (set_in m q) refl where
         setter : IsIn m lines × (has q (sets_by m) ≡ true)
         setter = found (λ (l : TraceLine). has q (sets_by l)) lines m is
@@ -309,12 +326,12 @@ module _ (strict : Bool) (root : PlacedState) (fresh : IsFresh script_places scr
             let n = in_map (λ (n : SetNote). n.promise) q m.sets (in_of_has q (sets_by m) setter.1) in
             absurd (not_found (λ (n : SetNote). same n.promise q) m.sets n.0 e n.1
             (ap (λ x. same x q) (sym n.2) ∙ same_self q))
-        by (Some n) e = (clear, (unset, (kept, set_found m setter.0 q n e)))
+        by (Some n) e = (clear, (never, (kept, set_found m setter.0 q n e)))
 
     by_hand : NeverOwed strict root N l.line.name q → NeverSet strict root N l.line.name q
         → (n : Option HandNote) → hand_in l q ≡ n → Right (or_else (option_map (handed l) n) (went_elsewhere lines q))
-    by_hand clear unset None is = by_other clear unset (never_handed l there q is) (setter_of lines q) refl
-    by_hand clear unset (Some n) is = let h = hand_found l there q n is in (clear, (refl, (unset, (h.0, h.1))))
+    by_hand clear never None is = by_other clear never (never_handed l there q is) (setter_of lines q) refl
+    by_hand clear never (Some n) is = let h = hand_found l there q n is in (clear, (refl, (never, (h.0, h.1))))
 
     by_set : NeverOwed strict root N l.line.name q → (n : Option SetNote) → set_in l q ≡ n
         → Right (or_else (option_map (λ (n : SetNote). went.SetHere n.at) n)

@@ -1,6 +1,7 @@
 -- The order in which causes are told.
 use Rattle.std.specs.Prelude.{◌≡◌, ◌⊎◌, List, [], ◌∷◌, map, Option, None, slice_get}
 use Rattle.tj_base.specs.ForkOrder.{Name}
+use Rattle.tj_base.specs.declared.cause.Cause.{Cause}
 use Rattle.tj_base.specs.declared.cause.Cause.TheVariants as cause
 use Rattle.tj_body.specs.Points.{IsIn}
 use Rattle.tj_findings.specs.declared.finding.Finding.{Finding}
@@ -40,3 +41,9 @@ pub record AreInTurn (places : List PlacesOfTask) (fs : List Finding) : Type 0 w
   pub refused_first : (waits : List Wait) (t : ToldTask) (q : Name) (m : Option Maker)
       → StandsBefore (finding.Cycle waits) (finding.Failed t (cause.Owner q) m) fs → StoppedAtNoAsk places t
       → IsIn q (cells_of waits) → ⊥
+  -- a failure stands before a cycle only if its set was refused for a cell for which a task waits: one of this cycle,
+  -- or of one that stands before it
+  pub cycles_first : (t : ToldTask) (c : Cause) (m : Option Maker) (waits : List Wait)
+      → StandsBefore (finding.Failed t c m) (finding.Cycle waits) fs
+      → StoppedAtNoAsk places t × ((q : Name) × (c ≡ cause.Owner q) × ((vs : List Wait) × IsIn q (cells_of vs)
+      × ((finding.Cycle vs ≡ finding.Cycle waits) ⊎ StandsBefore (finding.Cycle vs) (finding.Cycle waits) fs)))

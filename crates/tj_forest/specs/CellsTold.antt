@@ -1,5 +1,6 @@
 -- The law of cells: each cell that a finding tells is told with the statement that made it.
-use Rattle.std.specs.Prelude.{◌≡◌, ℕ, suc, ◌*◌, Bool, List, [], ◌∷◌, ◌++◌, map, Option, Some, slice_get}
+use Rattle.std.specs.Prelude.{◌≡◌, ℕ, suc, ◌*◌, Bool, List, [], ◌∷◌, ◌++◌, map, Option, Some, None}
+use Rattle.std.specs.Prelude.{slice_get}
 use Rattle.std.specs.List.{flat_map}
 use Rattle.tj_base.specs.ForkOrder.{Name, child}
 use Rattle.tj_base.specs.declared.cause.Cause.{Cause}
@@ -59,11 +60,15 @@ task_cell t = record { name = t.name; maker = t.fork }
 abbrev pub cells_in : Finding → List ToldCell
 cells_in f = named_in f ++ map task_cell (tasks_in f)
 
--- Each cell but the root's result is told with a statement: a `new` of a declaration of the script, or a `fork`. This
--- has a position. It is the statement at which the history of the task that made the cell stood as it made it.
+-- The root's result is told without a statement that made it. Each other cell is told with one: a `new` of a
+-- declaration of the script, or a `fork`. This has a position. It is the statement at which the history of the task that
+-- made the cell stood as it made it, and there is such a task.
 pub record IsCellToldRight (script : List trees.Task) (places : List PlacesOfTask) (program : Program PlacedState)
     (N : ℕ) (q : ToldCell) : Type 0 where
+  pub root : q.name ≡ [] → q.maker ≡ None
   pub made : ¬ (q.name ≡ []) → (m : Maker) × (q.maker ≡ Some m) × IsMadeIn script m.decl m × HasPlace places m.decl m.at
+  pub is_task : (x : Name) (k : ℕ) → q.name ≡ child x (suc k)
+      → (t : Task PlacedState) × IsIn t (tasks program (last_round N)) × (t.name ≡ x)
   pub stood : (x : Name) (k : ℕ) → q.name ≡ child x (suc k) → (t : Task PlacedState)
       → IsIn t (tasks program (last_round N)) → t.name ≡ x
       → slice_get (made_until program.rules (given program (last_round N)) t (2 * suc (program.rules.left t.body))) k

@@ -1,6 +1,6 @@
 -- The law of positions: each task that a finding tells has its declaration, and positions of the statement at which it
 -- stopped and of the one that forked it. So a text of findings has no question mark for a task.
-use Rattle.std.specs.Prelude.{◌≡◌, ℕ, Bool, List, [], ◌∷◌, map, slice_get, Some}
+use Rattle.std.specs.Prelude.{◌≡◌, ℕ, Bool, List, [], ◌∷◌, map, slice_get, Some, None}
 use Rattle.std.specs.List.{flat_map}
 use Rattle.std.specs.Prelude.{option_to_list}
 use Rattle.tj_body.specs.Points.{IsIn}
@@ -45,6 +45,7 @@ pub record IsToldRight {B : Type 0} (ps : List (Point B)) (script : List Task) (
   pub declared : (d : Task) × (slice_get script t.decl ≡ Some d)
   pub stopped : (e : Ending) × StoppedSo ps t.name e × (t.stop ≡ stop_of e) × StandsWhere script t.decl t.at e
   pub stands : HasPlace places t.decl t.at
+  pub root : t.name ≡ [] → t.fork ≡ None
   pub forked : ¬ (t.name ≡ []) → IsForkOf script t.decl t.fork
   pub fork_stands : (m : Maker) → t.fork ≡ Some m → HasPlace places m.decl m.at
 

@@ -96,10 +96,10 @@ module _ (strict : Bool) (root : PlacedState) (N : ℕ) where
   OwnedAtEnd y q = (p : Point TaskState) × IsIn p (meaning (script_program strict root) N) × (p.name ≡ y)
       × IsIn q (kept_at p.stage p)
 
-  -- the history of the task with this name never set the promise
+  -- there is a task with this name, and its history never set the promise
   abbrev pub NeverSet : Name → Name → Type 0
-  NeverSet x q = (u : Task PlacedState) → IsIn u (tasks (placed_program strict root) (last_round N)) → x ≡ u.name
-      → (n : SetNote) → IsIn n (sets_of u) → n.promise ≡ q → ⊥
+  NeverSet x q = ((u : Task PlacedState) × IsTask x u)
+      × ((u : Task PlacedState) → IsTask x u → (n : SetNote) → IsIn n (sets_of u) → n.promise ≡ q → ⊥)
 
   -- it never handed it on
   abbrev pub NeverHandedOn : Name → Name → Type 0
@@ -114,10 +114,9 @@ module _ (strict : Bool) (root : PlacedState) (N : ℕ) where
   abbrev pub HadNoRight : Name → Name → Type 0
   HadNoRight x q = StoppedSo (meaning (script_program strict root) N) x (ending.Failed (cause.Owner q))
 
-  -- no task set the promise
+  -- no task of the meaning set the promise
   abbrev pub NobodySet : Name → Type 0
-  NobodySet q = (u : Task PlacedState) → IsIn u (tasks (placed_program strict root) (last_round N))
-      → (n : SetNote) → IsIn n (sets_of u) → n.promise ≡ q → ⊥
+  NobodySet q = (p : Point TaskState) → IsIn p (meaning (script_program strict root) N) → NeverSet p.name q
 
   module _ (places : List PlacesOfTask) where
     -- this is where the promise went for which the task failed, with positions of the statements told; of others it is

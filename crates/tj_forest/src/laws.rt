@@ -54,7 +54,7 @@ pub fn waits_lead_to_told_cycles()
 pub fn tasks_are_told_right()
     // Law: in a run from the body of `main` on, each task that a finding tells has its declaration,
     // a statement there at which a task can stop as its history did, and a fork of this declaration if
-    // it isn't the root. Each of these statements has a position.
+    // it isn't the root. The root is told without one. Each of these statements has a position.
     ensures { TasksAreToldRight }
 {}
 
@@ -86,8 +86,8 @@ pub fn tasks_are_of_histories()
 pub fn cells_are_told_right()
     // Law: in a run from the body of `main` on that isn't full, each cell that a finding tells, the
     // tasks among them, but the root's result, is told with a `new` of the script, or a `fork`, which
-    // has a position. It is the statement at which the history of the task that made the cell stood
-    // as it made it.
+    // has a position. There is a task that made the cell, and it is the statement at which its history
+    // stood as it made it. The root's result is told without a statement that made it.
     ensures { CellsAreToldRight }
 {}
 
@@ -115,7 +115,9 @@ pub fn consequences_follow()
     // task which its cause tells: the one that failed, or that owed the promise. Among the causes only
     // promises owed by ended tasks stand behind such a promise. No cycle stands before the failure of a
     // task that had no right to a promise, at a statement without an ask, if a task of this cycle waits
-    // for this promise: so a set that was refused stands before each cycle that waits for it.
+    // for this promise: so a set that was refused stands before each cycle that waits for it. A failure
+    // stands before a cycle only if it is such a set, and a task of this cycle waits for its promise, or
+    // of one that stands before this cycle.
     ensures { (strict : Bool) (root : PlacedState) → ConsequencesFollow strict root }
 {
     waits_lead_to_a_cycle::<ScriptBody>();

@@ -20,7 +20,7 @@ use Rattle.tj_texts.specs.GroupLaws.{AllSaySame, AllStandAlike, AreApart, Groups
 use Rattle.tj_texts.specs.GroupLaws.{SaySame, StandAlike}
 
 -- both of two
-of_both : (a b : Bool) → (a && b) ≡ true → (a ≡ true) × (b ≡ true)
+pub of_both : (a b : Bool) → (a && b) ≡ true → (a ≡ true) × (b ≡ true)
 of_both true b e = (refl, e)
 of_both false b e = absurd (true≢false (sym e))
 
@@ -29,7 +29,7 @@ both_true true b p q = q
 both_true false b p q = p
 
 -- two numbers and two numbers
-same_pair : (a b c d : ℕ) → (nat_eq a b && nat_eq c d) ≡ true → (a ≡ b) × (c ≡ d)
+pub same_pair : (a b c d : ℕ) → (nat_eq a b && nat_eq c d) ≡ true → (a ≡ b) × (c ≡ d)
 same_pair a b c d e =
     let both = of_both (nat_eq a b) (nat_eq c d) e in
     (eqb-true a b both.0, eqb-true c d both.1)

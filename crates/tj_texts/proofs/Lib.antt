@@ -7,3 +7,4 @@ mod TextsOfLines
 mod GroupsTold
 mod GroupsSame
 mod NamesTold
+mod PartsAgreed

@@ -32,7 +32,7 @@ use Rattle.tj_findings.proofs.PlainParts.{plain_named, plain_owner, plain_promis
 use Rattle.tj_findings.proofs.PlainParts.{plain_stop}
 use Rattle.tj_findings.proofs.PlainParts.{plain_stopped, plain_task_at, plain_word}
 use Rattle.tj_texts.specs.WhyTexts as why
-use Rattle.tj_texts.specs.WentTexts.{went_text}
+use Rattle.tj_texts.specs.WentTexts.{alike_went, each_text, went_text}
 
 -- so many tasks
 pub plain_tasks : (n : ℕ) → IsPlain (why.tasks_text n)
@@ -63,7 +63,7 @@ plain_names (x ∷ []) = plain_name x
 plain_names (x ∷ y ∷ []) =
     plain_both (name_text x ++ codes " and ") (name_text y)
     (plain_both (name_text x) (codes " and ") (plain_name x) refl) (plain_name y)
-plain_names (x ∷ y ∷ z ∷ more) = plain_many x y (suc (length more))
+plain_names (x ∷ y ∷ z ∷ more) = plain_many x y _
 
 -- where a task was forked
 plain_forked : (s : Told) (m : Option Maker) → IsPlain (why.fork_text s m)
@@ -111,6 +111,25 @@ plain_went s d (went.SetBy x e n) =
 plain_went s d (went.OwnedBy x) =
     plain_both (codes ", which " ++ name_text x) (codes " owned where it stopped")
     (plain_both (codes ", which ") (name_text x) refl (plain_name x)) refl
+
+-- where promises went at one statement
+plain_each : (s : Told) (d : ℕ) (w : Went) → IsPlain (each_text s d w)
+plain_each s d went.Nowhere = refl
+plain_each s d (went.SetHere n) = refl
+plain_each s d (went.HandedHere x k n) =
+    plain_both (codes ", each handed on at ") (spot_text s d n) refl (plain_spot s d n)
+plain_each s d went.TwiceHere = refl
+plain_each s d (went.SetBy x e n) =
+    plain_both (codes ", each set by another at ") (spot_text s e n) refl (plain_spot s e n)
+plain_each s d (went.OwnedBy x) = refl
+
+-- where promises went for which several tasks failed
+plain_all_went : (s : Told) (t : ToldTask) (ts : List ToldTask) → IsPlain (why.all_went s t ts)
+plain_all_went s t ts =
+    plain_cond (list_all (λ u. same_went t.went u.went) ts) (went_text s t.decl t.went) (why.each_went s t ts)
+    (plain_went s t.decl t.went)
+    (plain_agreed (list_all (λ u. alike_went t.went u.went) ts) (each_text s t.decl t.went)
+    (plain_each s t.decl t.went))
 
 -- the cause of failures
 plain_cause_of : (c : Cause) (fs : List Finding) → IsPlain (why.cause_of c fs)
@@ -243,8 +262,7 @@ module _ (s : Told) (plain : HasPlainNames s) where
   plain_about : (t : ToldTask) (m : Option Maker) (fs : List Finding) → IsPlain (why.about_text s t m fs)
   plain_about t m fs =
       plain_both (why.all_made s m fs) (why.all_went s t (tasks_told fs)) (plain_all_made m fs)
-      (plain_agreed (list_all (λ u. same_went t.went u.went) (tasks_told fs)) (went_text s t.decl t.went)
-      (plain_went s t.decl t.went))
+      (plain_all_went s t (tasks_told fs))
 
   -- the line of failures that are no echoes
   pub failed_line : (t : ToldTask) (c : Cause) (m : Option Maker) (fs : List Finding)

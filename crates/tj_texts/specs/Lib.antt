@@ -3,3 +3,4 @@ pub mod Inner
 pub mod WentTexts
 pub mod LineLaws
 pub mod GroupLaws
+pub mod AgreedParts

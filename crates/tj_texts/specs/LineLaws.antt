@@ -1,7 +1,8 @@
 -- The law of texts: findings that are told together have lines of their own, in the forest's order.
-use Rattle.std.specs.Prelude.{◌≡◌, ℕ, zero, suc, ◌+◌, ◌-◌, Bool, true, ◌||◌, nat_le, cond, List, [], ◌∷◌, ◌++◌, codes}
-use Rattle.std.specs.Prelude.{drop, length, map, slice_get, take, Option, Some, None}
-use Rattle.std.specs.List.{flat_map}
+use Rattle.std.specs.Prelude.{◌≡◌, ℕ, zero, suc, ◌+◌, ◌-◌, Bool, true, ◌||◌, nat_eq, nat_le, cond, List, [], ◌∷◌}
+use Rattle.std.specs.Prelude.{◌++◌, codes, decimal, drop, length, map, slice_get, take, unwrap_or, Option, Some, None}
+use Rattle.std.specs.List.{flat_map, range_with_len}
+use Rattle.std.specs.Option.{option_map}
 use Rattle.tj_base.specs.ForkOrder.{Name}
 use Rattle.tj_base.specs.Texts.{name_text}
 use Rattle.tj_body.specs.Points.{IsIn}
@@ -15,6 +16,7 @@ use Rattle.tj_findings.specs.declared.finding.Finding.{Finding}
 use Rattle.tj_findings.specs.declared.finding.Finding.TheVariants as finding
 use Rattle.tj_findings.specs.declared.finding.ToldTask.{ToldTask}
 use Rattle.tj_findings.specs.declared.finding.Wait.{Wait}
+use Rattle.tj_texts.specs.GroupLaws.{AllSaySame}
 use Rattle.tj_texts.specs.WhyTexts.{forest_text, members_text}
 
 -- the findings of a group with their level, and behind them those of the groups of what follows from them
@@ -87,28 +89,59 @@ abbrev pub HaveLines : Told → Type 0
 HaveLines s = (all : Bool) (g : Finding) (gs : List Finding)
     → AreLines (lines_of s all g) (members_text s all (g ∷ gs))
 
--- the members of a cycle that are told: where not all are, of more than 20 the first ten and the last ten
-abbrev pub told_members : Bool → List Wait → List Wait
-told_members all ws = cond (all || nat_le (length ws) 20) ws (take 10 ws ++ drop (length ws - 10) ws)
+-- the name by which a line tells a finding that is no cycle: that of its task, or of the promise that was owed
+abbrev pub finding_name : Finding → Name
+finding_name (finding.Cycle ws) = []
+finding_name (finding.Behind w) = w.task.name
+finding_name (finding.Failed t c m) = t.name
+finding_name (finding.Owed q t) = q.name
+finding_name (finding.Echo t q o) = t.name
 
--- the names that the lines have of the first of findings that are alike: of its task, of a cycle of the members that
--- are told, or of a promise that was owed
-abbrev pub names_told : Bool → Finding → List Name
-names_told all (finding.Cycle ws) = map (λ w. w.task.name) (told_members all ws)
-names_told all (finding.Behind w) = w.task.name ∷ []
-names_told all (finding.Failed t c m) = t.name ∷ []
-names_told all (finding.Owed q t) = q.name ∷ []
-names_told all (finding.Echo t q o) = t.name ∷ []
+-- the name of a cycle's member with this number
+abbrev pub member_name : ℕ → Finding → Name
+member_name n (finding.Cycle ws) = unwrap_or (option_map (λ w. w.task.name) (slice_get ws n)) []
+member_name n (finding.Behind w) = []
+member_name n (finding.Failed t c m) = []
+member_name n (finding.Owed q t) = []
+member_name n (finding.Echo t q o) = []
+
+-- the numbers of the members that are told of a cycle of so many: where not all are, of more than 20 the first ten and
+-- the last ten
+abbrev pub told_numbers : Bool → ℕ → List ℕ
+told_numbers all n =
+    cond (all || nat_le n 20) (range_with_len 0 n) (range_with_len 0 10 ++ range_with_len (n - 10) 10)
+
+-- the part of a line that has several names: both of two, and else the first two and how many more there are
+abbrev pub names_part : List Name → List ℕ
+names_part [] = []
+names_part (x ∷ []) = name_text x
+names_part (x ∷ y ∷ []) = name_text x ++ codes " and " ++ name_text y
+names_part (x ∷ y ∷ z ∷ more) =
+    name_text x ++ codes ", " ++ name_text y ++ codes " and " ++ decimal (suc (length more)) ++ codes " more"
+
+-- the part of a line that counts cycles, if there are several
+abbrev pub count_parts : ℕ → List (List ℕ)
+count_parts n = cond (nat_eq n 1) [] ((codes "deadlock: " ++ decimal n ++ codes " times ") ∷ [])
+
+-- what the lines have of findings that say the same: the names by which they are told, of cycles first how many there
+-- are and then the names of their members with each number that is told
+abbrev pub parts_told : Bool → Finding → List Finding → List (List ℕ)
+parts_told all (finding.Cycle ws) gs = count_parts (suc (length gs))
+    ++ map (λ n. names_part (map (member_name n) (finding.Cycle ws ∷ gs))) (told_numbers all (length ws))
+parts_told all (finding.Behind w) gs = names_part (w.task.name ∷ map finding_name gs) ∷ []
+parts_told all (finding.Failed t c m) gs = names_part (t.name ∷ map finding_name gs) ∷ []
+parts_told all (finding.Owed q t) gs = names_part (q.name ∷ map finding_name gs) ∷ []
+parts_told all (finding.Echo t q o) gs = names_part (t.name ∷ map finding_name gs) ∷ []
 
 -- these stand in the text one behind the other, in this order
 abbrev pub StandInOrder : List (List ℕ) → List ℕ → Type 0
 StandInOrder [] text = Unit {0}
 StandInOrder (p ∷ ps) text = (i : StandsIn p text) × StandInOrder ps i.behind
 
--- what is told of findings that are told together has the names of the first, in this order
+-- what is told of findings that say the same, as those of a group do, has their names and their count
 abbrev pub HaveNames : Told → Type 0
-HaveNames s = (all : Bool) (g : Finding) (gs : List Finding)
-    → StandInOrder (map name_text (names_told all g)) (members_text s all (g ∷ gs))
+HaveNames s = (all : Bool) (g : Finding) (gs : List Finding) → AllSaySame (g ∷ gs)
+    → StandInOrder (parts_told all g gs) (members_text s all (g ∷ gs))
 
 -- a text tells the findings of a forest, those that are told together by lines of their own
 abbrev pub TextsTellEach : Type 0

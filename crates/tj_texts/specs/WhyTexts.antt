@@ -29,7 +29,7 @@ use Rattle.tj_findings.specs.declared.finding.ToldCell.{ToldCell}
 use Rattle.tj_findings.specs.declared.finding.ToldTask.{ToldTask}
 use Rattle.tj_findings.specs.declared.finding.Wait.{Wait}
 use Rattle.tj_findings.specs.Went.{same_went}
-use Rattle.tj_texts.specs.WentTexts.{went_text}
+use Rattle.tj_texts.specs.WentTexts.{alike_went, each_text, went_text}
 
 -- so many tasks
 abbrev pub tasks_text : ℕ → List ℕ
@@ -195,9 +195,15 @@ abbrev pub all_made : Told → Option Maker → List Finding → List ℕ
 all_made s m fs =
     where_agreed (list_all (λ g. same_maker m (maker_told g)) fs) (made_text s m)
 
--- where the promises went for which the tasks failed, if they went the same way
+-- where the promises went for which the tasks failed, if each task handed its own on, or each was set by another, at
+-- the same statement, or others owned them
+abbrev pub each_went : Told → ToldTask → List ToldTask → List ℕ
+each_went s t ts = where_agreed (list_all (λ u. alike_went t.went u.went) ts) (each_text s t.decl t.went)
+
+-- where the promises went for which the tasks failed, if they went the same way, or alike
 abbrev pub all_went : Told → ToldTask → List ToldTask → List ℕ
-all_went s t ts = where_agreed (list_all (λ u. same_went t.went u.went) ts) (went_text s t.decl t.went)
+all_went s t ts =
+    cond (list_all (λ u. same_went t.went u.went) ts) (went_text s t.decl t.went) (each_went s t ts)
 
 -- where the cells were made that the causes name, and where they went
 abbrev pub about_text : Told → ToldTask → Option Maker → List Finding → List ℕ

@@ -10,8 +10,10 @@ pub fn texts_tell_each_finding()
     // line has a line feed, these are one line; of failures two more, if a source line is told, and the task
     // stopped at a position; of cycles one more for each member that is told, with two more as of failures,
     // and one where members are left out. Unless all is told, of more than 20 members the first ten and the
-    // last ten are. The lines have the name of the first finding's task, of the promise that was owed, or of
-    // the members of the first cycle that are told, in their order.
+    // last ten are. The lines of findings that say the same, as those of a group do, have the names of the
+    // tasks, of the promises that were owed, or, number by number, of the members that are told of cycles:
+    // of two findings both names, and of more those of the first two and how many more there are. Of
+    // several cycles the line that counts tasks has their number first.
     ensures { TextsTellEach }
 {}
 

@@ -18,3 +18,7 @@ pub use why_lines::{fine_text, forest_text};
 mod laws;
 
 pub use laws::{groups_say_the_same, texts_tell_each_finding};
+
+mod part_laws;
+
+pub use part_laws::lines_tell_what_agrees;

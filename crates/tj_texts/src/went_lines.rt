@@ -101,8 +101,71 @@ fn of_way(went: &Went, tasks: &[&ToldTask]) -> bool
     tasks.iter().all(|task| same_went(went, &task.went))
 }
 
+/// Whether the tasks handed the promises on, or others set them, at the same statement, or others
+/// owned them.
+fn alike_went(first: &Went, second: &Went) -> bool
+    ensures { result ≡ spec.alike_went first.now second.now }
+{
+    match (first, second) {
+        (Went::HandedHere { at, .. }, Went::HandedHere { at: other, .. }) => *at == *other,
+        (
+            Went::SetBy { decl, at, .. },
+            Went::SetBy {
+                decl: declared,
+                at: other,
+                ..
+            },
+        ) => *decl == *declared && *at == *other,
+        (Went::OwnedBy(_), Went::OwnedBy(_)) => true,
+        _ => false,
+    }
+}
+
+/// Whether the promises for which these tasks failed went as that of this one, but by several tasks.
+fn of_several(went: &Went, tasks: &[&ToldTask]) -> bool
+    ensures { result ≡ list_all (λ task. spec.alike_went went.now task.went)
+        (map (λ task. task.now) tasks.now) }
+{
+    tasks.iter().all(|task| alike_went(went, &task.went))
+}
+
+/// Where promises went of which this is the first, and the others went alike.
+fn each_text(scene: &Scene, decl: usize, went: &Went) -> Result<Vec<u8>, Oom>
+    ensures { IfOk result (λ text. text.items ≡ spec.each_text (view scene.now) decl went.now) }
+{
+    let alloc = scene.alloc;
+    match went {
+        Went::Nowhere | Went::TwiceHere | Went::SetHere(_) => Ok(Vec::new(alloc)),
+        Went::HandedHere { at, .. } => {
+            let spot = spot_text(scene, decl, *at)?;
+            joined(alloc, &[b", each handed on at ", spot.as_slice()])
+        }
+        Went::SetBy { decl, at, .. } => {
+            let spot = spot_text(scene, *decl, *at)?;
+            joined(alloc, &[b", each set by another at ", spot.as_slice()])
+        }
+        Went::OwnedBy(_) => {
+            let text = b", each owned by another where it stopped";
+            Ok(Vec::from_slice(alloc, text)?)
+        }
+    }
+}
+
+/// Where the promises went for which tasks failed that stand where this one does, if each handed its
+/// own on, or each was set by another, at the same statement, or others owned them.
+fn each_went(scene: &Scene, first: &ToldTask, tasks: &[&ToldTask]) -> Result<Vec<u8>, Oom>
+    ensures { IfOk result (λ text. text.items
+        ≡ texts.each_went (view scene.now) first.now (map (λ task. task.now) tasks.now)) }
+{
+    if of_several(&first.went, tasks) {
+        each_text(scene, first.decl, &first.went)
+    } else {
+        Ok(Vec::new(scene.alloc))
+    }
+}
+
 /// Where the promises went for which tasks failed that stand where this one does, if they went the
-/// same way.
+/// same way, or alike.
 pub fn all_went(scene: &Scene, first: &ToldTask, tasks: &[&ToldTask]) -> Result<Vec<u8>, Oom>
     ensures { IfOk result (λ text. text.items
         ≡ texts.all_went (view scene.now) first.now (map (λ task. task.now) tasks.now)) }
@@ -110,6 +173,6 @@ pub fn all_went(scene: &Scene, first: &ToldTask, tasks: &[&ToldTask]) -> Result<
     if of_way(&first.went, tasks) {
         went_text(scene, first.decl, &first.went)
     } else {
-        Ok(Vec::new(scene.alloc))
+        each_went(scene, first, tasks)
     }
 }

@@ -30,3 +30,6 @@ pub mod DepthLists
 pub mod DepthRounds
 pub mod DepthTaken
 pub mod Counted
+pub mod QuietLists
+pub mod QuietBlocks
+pub mod QuietTasks

@@ -153,7 +153,7 @@ module _ (strict : Bool) where
   step_more V (stage.Closed c) p e = nothing_more (notes_at p.stage p.body) p p refl refl
 
   -- the notes after so many steps
-  noted_until : (V : Assignment) (t : Task Logged) → t.body.makers ≡ [] → (k : ℕ)
+  pub noted_until : (V : Assignment) (t : Task Logged) → t.body.makers ≡ [] → (k : ℕ)
       → let p = point_after (rules strict) V k t in notes_at p.stage p.body ≡ made_until bare V (task_as place t) k
   noted_until V t e zero = e
   noted_until V t e (suc k) =

@@ -35,6 +35,10 @@ module _ (strict : Bool) (root : PlacedState) (noting : Logged) (is : noting ≡
   pub of_root : (P : Program Logged → Type 0) → P (noted_program strict noting) → P (logged_program strict root)
   of_root P h = subst (λ x. P (noted_program strict x)) is h
 
+  -- what is so of the root's program is so of that of the body that notes
+  pub to_noting : (P : Program Logged → Type 0) → P (logged_program strict root) → P (noted_program strict noting)
+  to_noting P h = subst (λ x. P (noted_program strict x)) (sym is) h
+
   -- it has noted nothing
   pub notes_nothing : noting ≡ logged noting.placed
   notes_nothing = subst (λ x. x ≡ logged x.placed) (sym is) refl

@@ -4,3 +4,4 @@ pub mod LineParts
 pub mod RoundMakers
 pub mod TaskDepths
 pub mod StatementCounts
+pub mod Quiet

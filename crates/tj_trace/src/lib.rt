@@ -19,10 +19,12 @@ mod found;
 mod full;
 mod most;
 
-pub use full::{most_by_depths, most_made};
+pub use full::{most_by_depths, most_made, most_of_script};
 pub use most::Most;
 
 mod depths;
 mod ended;
 
 pub use ended::outcome_of_lines;
+
+mod quiet;

@@ -1,4 +1,4 @@
-use Rattle.std.proofs.Common.{subst, sym}
+use Rattle.std.proofs.Common.{ap, subst, sym}
 use Rattle.tj_syntax.specs.View as view
 use Rattle.tj_trace.specs.Logs.{logged_program}
 use Rattle.tj_trace.specs.Traces.{AreTraced}
@@ -24,3 +24,7 @@ pub told_full-requires-clause-full : goal.told_full-requires-clause-full
 told_full-requires-clause-full c =
     let limits = c.args.command.limits in
     (is_full_alike limits.strict c.in_ok-root.root limits.cells).0 (c.in-Err-Full.ensures.full c.in-Err-Full.field-0-is)
+
+-- the root is the script's task `main`
+pub told_full-requires-clause-script : goal.told_full-requires-clause-script
+told_full-requires-clause-script c = ap (λ t. t.script) c.in_ok-root.ensures.main.0.2

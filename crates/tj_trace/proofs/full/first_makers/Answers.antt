@@ -1,4 +1,4 @@
-use Rattle.std.proofs.Common.{◌-◌, ◌∙◌, inl, arith}
+use Rattle.std.proofs.Common.{suc, ◌-◌, ◌∙◌, inl, arith}
 use Rattle.std.proofs.lemmas.List.{nil_from_length}
 use denote.Param.Send.{sendable}
 use Rattle.std.proofs.Crossing.{crosses}
@@ -27,6 +27,10 @@ take_up-requires-clause-notes_nothing c =
     round_fresh c.args.strict c.args.root.now c.requires.root c.requires.notes_nothing 0 c.in_ok-first.first
     (inl c.in_ok-first.ensures)
 
+pub take_up-requires-clause-quiet : goal.take_up-requires-clause-quiet
+take_up-requires-clause-quiet c =
+    c.requires.quiet (assignment_in c.args.given.now) 1 c.in_ok-first.first (inl c.in_ok-first.ensures)
+
 pub loop-task-init : goal.loop-task-init
 loop-task-init c =
     begins_found (noted_program c.args.strict c.args.root.now) c.args.number
@@ -49,6 +53,14 @@ take_up-requires-in-Some-clause-notes_nothing c =
     let w = c.in-Some.field-0 in
     round_fresh c.args.strict c.args.root.now c.requires.root c.requires.notes_nothing
     (c.args.number - 1) w.task
+    (next_found (noted_program c.args.strict c.args.root.now) c.args.number
+    (assignment_in c.args.given.now) c.requires.round c.loop-task.pending.items c.loop-task.makers.items
+    c.loop-task.invariant c.pop.new.self.items w c.in-Some.ensures.items)
+
+pub take_up-requires-in-Some-clause-quiet : goal.take_up-requires-in-Some-clause-quiet
+take_up-requires-in-Some-clause-quiet c =
+    let w = c.in-Some.field-0 in
+    c.requires.quiet (assignment_in c.args.given.now) (suc (c.args.number - 1)) w.task
     (next_found (noted_program c.args.strict c.args.root.now) c.args.number
     (assignment_in c.args.given.now) c.requires.round c.loop-task.pending.items c.loop-task.makers.items
     c.loop-task.invariant c.pop.new.self.items w c.in-Some.ensures.items)

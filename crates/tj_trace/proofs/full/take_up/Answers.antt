@@ -3,13 +3,16 @@ use Rattle.std.specs.Prelude.{filter}
 use denote.Param.Send.{sendable}
 use Rattle.std.proofs.Crossing.{crosses}
 use Rattle.tj_base.specs.declared.cell.Sort.TheVariants as sort
+use Rattle.tj_body.specs.History.{history}
 use Rattle.tj_body.specs.Points.{IsIn}
 use Rattle.tj_body.specs.declared.point.Task.{Task}
 use Rattle.tj_mean.specs.Inner.Assignments.{assignment_in}
 use Rattle.tj_syntax.proofs.Sends.{expr_sync, stmt_sync, script_sync}
 use Rattle.tj_trace.specs.Inner.RoundMakers.{forked_makers, is_of, still_makers}
 use Rattle.tj_trace.specs.Logs.{Logged}
+use Rattle.tj_trace.proofs.LoggedRules.{rules}
 use Rattle.tj_trace.proofs.MostFound.{counts_forks, if_all, takes_up}
+use Rattle.tj_trace.proofs.QuietTasks.{leaps}
 use Rattle.tj_trace.proofs.Sends.{size_sync, sizes_sync}
 use Rattle.tj_trace.proofs.full.take_up.Goals as goal
 
@@ -31,6 +34,14 @@ follow-requires-clause-as_many c κs =
     c.in_ok-history.ensures (filter (is_of sort.Task) c.parts-noted.result.0.items)
     (ap (λ l. filter (is_of sort.Task) l) c.parts-noted.ensures.makers) c.requires.proper c.requires.notes_nothing
     ∙ ap (λ (l : List (Task Logged)). length l) (sym c.parts-noted.ensures.children)
+
+-- where no fork is followed and nothing is promised, nothing is added
+pub returns-then-may_leap : goal.returns-then-may_leap
+returns-then-may_leap c =
+    let V = assignment_in c.args.given.now in
+    let leap = c.may_leap.ensures c.if-may_leap.true in
+    leaps (history (rules c.args.strict) V c.args.task) c.args.depth c.args.pending.now.items c.args.makers.now.items
+    (c.requires.quiet leap.1) leap.0
 
 pub returns : goal.returns
 returns c =
