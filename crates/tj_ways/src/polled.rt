@@ -6,7 +6,7 @@ use std::thread::Threads;
 use tj_base::{CellId, add_signed};
 use tj_future::{PolledPlan, Watched, look_at, run_polled};
 use tj_ports::OpenGate;
-use tj_ready::StealPool;
+use tj_ready::NewestFirstPool;
 use tj_task::{Do, Oom, Plan, Replay, TaskBody, Told, steps};
 use tj_words::{Fill, Laid, WSeat};
 
@@ -73,7 +73,15 @@ pub(crate) fn polled<R: Wait + Threads + RandomSource + Sync + AllocGlobal>(
 ) -> Option<Vec<u8>> {
     let alloc = rt.alloc();
     let root = TaskBody::new(Replay::of(alloc, Gives::Root), 100);
-    let run = run_polled::<_, StealPool, OpenGate, R>(rt, alloc, root, 16, 2, &OpenGate, CellId(1));
+    let run = run_polled::<_, NewestFirstPool, OpenGate, R>(
+        rt,
+        alloc,
+        root,
+        16,
+        2,
+        &OpenGate,
+        CellId(1),
+    );
     match run.ok()?.0 {
         Watched::Value(Fill::Num(value)) => {
             let mut text = Vec::from_slice(alloc, b"0.1 is ").ok()?;
