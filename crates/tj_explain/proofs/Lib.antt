@@ -15,3 +15,4 @@ mod GroupsTold
 mod FullStands
 mod NamesPlain
 mod SceneLines
+mod GroupTrees

@@ -9,3 +9,4 @@ pub mod FullPlaces
 pub mod PlaceLaws
 pub mod GroupsTold
 pub mod SceneLines
+pub mod GroupTrees

@@ -13,7 +13,10 @@ mod usage;
 mod why;
 mod words;
 
-pub use laws::{groups_tell_each_finding, one_output, texts_tell_findings, texts_tell_full};
+pub use laws::{
+    groups_keep_what_follows, groups_tell_each_finding, one_output, texts_tell_findings,
+    texts_tell_full,
+};
 pub use line::{WhyCommand, command_of};
 pub use place_laws::places_are_of_tokens;
 pub use scene_laws::scenes_tell_lines;

@@ -36,18 +36,18 @@ module _ {A : Type 0} where
 
   -- what is told where all pass a test
   agreed : (p : A → Bool) (told : A → List ℕ) (xs : List A) (text : List ℕ) → ((x : A) → p x ≡ true → told x ≡ text)
-      → IsAgreed told xs (where_agreed (list_all p xs) text)
+      → IsAgreed told xs text (where_agreed (list_all p xs) text)
   agreed p told xs text so = by (list_all p xs) refl where
-    by : (b : Bool) → list_all p xs ≡ b → IsAgreed told xs (where_agreed b text)
-    by true is = inr (λ x i. so x (all_pass p xs is x i))
+    by : (b : Bool) → list_all p xs ≡ b → IsAgreed told xs text (where_agreed b text)
+    by true is = inr (refl, λ x i. so x (all_pass p xs is x i))
     by false is = inl refl
 
   -- a cell that is told where all have it
   with_cell : (p : A → Bool) (cell : A → Option Name) (xs : List A) (q : Option Name) (text bare : List ℕ)
-      → ((x : A) → p x ≡ true → cell x ≡ q) → HasCell cell xs q bare (cond (list_all p xs) text bare)
+      → ((x : A) → p x ≡ true → cell x ≡ q) → HasCell cell xs q text bare (cond (list_all p xs) text bare)
   with_cell p cell xs q text bare so = by (list_all p xs) refl where
-    by : (b : Bool) → list_all p xs ≡ b → HasCell cell xs q bare (cond b text bare)
-    by true is = inr (λ x i. so x (all_pass p xs is x i))
+    by : (b : Bool) → list_all p xs ≡ b → HasCell cell xs q text bare (cond b text bare)
+    by true is = inr (refl, λ x i. so x (all_pass p xs is x i))
     by false is = inl refl
 
 -- names that are the same, if there are any
@@ -225,10 +225,10 @@ module _ (s : Told) where
     told = went_text s t.decl t.went
 
     by : (b : Bool) → list_all (λ (u : ToldTask). same_went t.went u.went) ts ≡ b
-        → IsAgreed (λ u. went_text s t.decl u.went) ts (cond b told (each_went s t ts))
-        ⊎ IsAgreed (λ u. each_text s t.decl u.went) ts (cond b told (each_went s t ts))
+        → IsAgreed (λ u. went_text s t.decl u.went) ts told (cond b told (each_went s t ts))
+        ⊎ IsAgreed (λ u. each_text s t.decl u.went) ts (each_text s t.decl t.went) (cond b told (each_went s t ts))
     by true is =
-        inl (inr (λ u i. went_same t.decl t.went u.went (all_pass (λ u. same_went t.went u.went) ts is u i)))
+        inl (inr (refl, λ u i. went_same t.decl t.went u.went (all_pass (λ u. same_went t.went u.went) ts is u i)))
     by false is =
         inr (agreed (λ u. alike_went t.went u.went) (λ u. each_text s t.decl u.went) ts (each_text s t.decl t.went)
         (λ u e. each_same t.decl t.went u.went e))

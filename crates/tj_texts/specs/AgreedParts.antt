@@ -3,8 +3,10 @@
 use Rattle.std.specs.Prelude.{◌≡◌, ◌⊎◌, List, [], ◌++◌, ℕ, codes, map, slice_get, Option, Some}
 use Rattle.std.specs.Option.{option_map}
 use Rattle.tj_base.specs.ForkOrder.{Name}
+use Rattle.tj_base.specs.Texts.{name_text}
 use Rattle.tj_base.specs.declared.cause.Cause.{Cause}
 use Rattle.tj_body.specs.Points.{IsIn}
+use Rattle.tj_mean.specs.ReportTexts.{cause_text}
 use Rattle.tj_trace.specs.declared.line.Maker.{Maker}
 use Rattle.tj_findings.specs.Groups.{cell_named, cell_told, maker_told, origin_told}
 use Rattle.tj_findings.specs.PartTexts.{cause_word, made_text, owner_text}
@@ -15,16 +17,16 @@ use Rattle.tj_findings.specs.declared.finding.ToldTask.{ToldTask}
 use Rattle.tj_findings.specs.declared.finding.Wait.{Wait}
 use Rattle.tj_texts.specs.WentTexts.{each_text, went_text}
 use Rattle.tj_texts.specs.WhyTexts.{all_made, all_went, cause_of, crowd, first_names, fork_text, joined_text}
-use Rattle.tj_texts.specs.WhyTexts.{origins_text, promises_text}
+use Rattle.tj_texts.specs.WhyTexts.{origin_text, origins_text, promises_text}
 
 module _ {A : Type 0} where
-  -- the part is empty, or what is told of each of these by itself
-  abbrev pub IsAgreed : (A → List ℕ) → List A → List ℕ → Type 0
-  IsAgreed told xs part = (part ≡ []) ⊎ ((x : A) → IsIn x xs → told x ≡ part)
+  -- the part is empty, or this text, which is told of each of these by itself
+  abbrev pub IsAgreed : (A → List ℕ) → List A → (text part : List ℕ) → Type 0
+  IsAgreed told xs text part = (part ≡ []) ⊎ ((part ≡ text) × ((x : A) → IsIn x xs → told x ≡ text))
 
-  -- the part is this text, which has no name, or each of these has this cell
-  abbrev pub HasCell : (A → Option Name) → List A → Option Name → (bare part : List ℕ) → Type 0
-  HasCell cell xs q bare part = (part ≡ bare) ⊎ ((x : A) → IsIn x xs → cell x ≡ q)
+  -- the part is bare, which has no name, or the text that names this cell, and each of these has the cell
+  abbrev pub HasCell : (A → Option Name) → List A → Option Name → (text bare part : List ℕ) → Type 0
+  HasCell cell xs q text bare part = (part ≡ bare) ⊎ ((part ≡ text) × ((x : A) → IsIn x xs → cell x ≡ q))
 
 -- the name of the cell of a wait
 abbrev pub cell_of : Wait → Option Name
@@ -36,41 +38,43 @@ module _ (s : Told) where
   ForksAgree = (t : ToldTask) (ts : List ToldTask) → (fork : List ℕ)
       × (crowd s t ts ≡ first_names (map (λ u. u.name) ts) ++ codes " of task " ++ name_of (slice_get s.script t.decl)
       ++ fork)
-      × IsAgreed (λ u. fork_text s u.fork) ts fork
+      × IsAgreed (λ u. fork_text s u.fork) ts (fork_text s t.fork) fork
 
-  -- of what tasks wait for the cell is told that each of them waits for, or none; and where it was made, and who owns it,
-  -- only if it is so of each
+  -- of what tasks wait for the name of the cell is told if each of them waits for it, or no name; and where it was made,
+  -- and who owns it, only if it is so of each
   abbrev pub WaitsAgree : Type 0
   WaitsAgree = (w : Wait) (ws : List Wait)
       → ((cell made owner : List ℕ) × (promises_text s w ws ≡ cell ++ made ++ owner)
-      × HasCell cell_of ws (cell_of w) (codes "promises") cell
-      × IsAgreed (λ v. made_text s v.cell.maker) ws made × IsAgreed (λ v. owner_text v.owner) ws owner)
-      × HasCell cell_of ws (cell_of w) (codes "tasks") (joined_text w ws)
+      × HasCell cell_of ws (cell_of w) (codes "the promise " ++ name_text w.cell.name) (codes "promises") cell
+      × IsAgreed (λ v. made_text s v.cell.maker) ws (made_text s w.cell.maker) made
+      × IsAgreed (λ v. owner_text v.owner) ws (owner_text w.owner) owner)
+      × HasCell cell_of ws (cell_of w) (codes "the task " ++ name_text w.cell.name) (codes "tasks") (joined_text w ws)
 
-  -- of the cause of failures the cell is told that each of them names, or none
+  -- of failures the cause is told with the cell that each of them names, or its word alone
   abbrev pub CausesAgree : Type 0
-  CausesAgree = (c : Cause) (fs : List Finding) → HasCell cell_told fs (cell_named c) (cause_word c) (cause_of c fs)
+  CausesAgree = (c : Cause) (fs : List Finding)
+      → HasCell cell_told fs (cell_named c) (cause_text c) (cause_word c) (cause_of c fs)
 
   -- where the cells were made is told only if it is so of each
   abbrev pub MakersAgree : Type 0
   MakersAgree = (m : Option Maker) (fs : List Finding)
-      → IsAgreed (λ g. made_text s (maker_told g)) fs (all_made s m fs)
+      → IsAgreed (λ g. made_text s (maker_told g)) fs (made_text s m) (all_made s m fs)
 
   -- so are reasons
   abbrev pub ReasonsAgree : Type 0
   ReasonsAgree = (t : ToldTask) (c : Cause) (ts : List ToldTask)
-      → IsAgreed (λ u. reason_text s u c) ts (all_reasons s t c ts)
+      → IsAgreed (λ u. reason_text s u c) ts (reason_text s t c) (all_reasons s t c ts)
 
   -- where promises went is told as of each by itself, or in words that are so of each
   abbrev pub WentsAgree : Type 0
   WentsAgree = (t : ToldTask) (ts : List ToldTask)
-      → IsAgreed (λ u. went_text s t.decl u.went) ts (all_went s t ts)
-      ⊎ IsAgreed (λ u. each_text s t.decl u.went) ts (all_went s t ts)
+      → IsAgreed (λ u. went_text s t.decl u.went) ts (went_text s t.decl t.went) (all_went s t ts)
+      ⊎ IsAgreed (λ u. each_text s t.decl u.went) ts (each_text s t.decl t.went) (all_went s t ts)
 
-  -- where echoes began is told only if each began with the task that is told
+  -- the task where echoes began is told only if each began there
   abbrev pub OriginsAgree : Type 0
   OriginsAgree = (o : Option ToldTask) (fs : List Finding)
-      → HasCell origin_told fs (option_map (λ t. t.name) o) [] (origins_text s o fs)
+      → HasCell origin_told fs (option_map (λ t. t.name) o) (origin_text s o) [] (origins_text s o fs)
 
   -- all of these
   abbrev pub PartsAgree : Type 0
