@@ -205,6 +205,15 @@ TOLD = (
     ("a graph, short", "--short --dot", ITSELF,
      'digraph tasks {\n  node [shape=box];\n  "0" [label="0\\nmain\\n1:24"];\n'
      '  "0" -> "0" [color=red, penwidth=3];\n}\n'),
+    ("the graph of the page", "--dot",
+     "task main() { let p = new; let q = new; fork f(own p); fork g(p); get q; }\n"
+     "task f(p) { return 1 / 0; }\ntask g(p) { get p; }\n",
+     'digraph tasks {\n  node [shape=box];\n  "0" [label="0\\nmain\\n1:67"];\n'
+     '  "0" -> "0.2" [color=red, penwidth=3];\n  "0.2" [shape=ellipse];\n  "0.2" -> "0" [style=dotted];\n'
+     '  "0.3" [label="0.3\\nf\\n2:13\\narith", style=filled, fillcolor=salmon];\n  "0" -> "0.3";\n'
+     '  "0.1" [shape=ellipse, style=filled, fillcolor=khaki];\n  "0.1" -> "0.3" [style=dotted];\n'
+     '  "0.4" [label="0.4\\ng\\n3:13\\nbroken 0.1", style=filled, fillcolor=salmon];\n  "0" -> "0.4";\n'
+     '  "0.4" -> "0.3" [style=dotted, color=salmon];\n}\n'),
     ("nothing is wrong, as an object", "--json", "task main() { fork f(); } task f() { }",
      '{"kind":"fine","tasks":2}\n'),
     ("too few cells, as an object", "--all --json --cells 1", OWED, '{"kind":"full","cells":1,"most":1,"at":"2:11"}\n'),
