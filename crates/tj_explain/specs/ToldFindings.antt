@@ -71,7 +71,7 @@ pub record Explains (script : List Task) (places : List PlacesOfTask) (strict : 
   -- each task has its declaration, and positions of the statements at which it stopped and was forked
   pub tasks : (t : ToldTask) → IsIn t (flat_map tasks_in fs)
       → IsToldRight (meaning (script_program strict root) N) script places t
-  -- each cell but the root's result has the statement that made it, with a position
+  -- each cell but the root's result has the statement that made it, with a position; the root's has none
   pub cells : (q : ToldCell) → IsIn q (flat_map cells_in fs)
       → IsCellToldRight script places (placed_program strict root) N q
   -- where a promise went is told as the histories did it, with positions, of a task without a right to it alone

@@ -55,8 +55,8 @@ pub fn texts_tell_full()
 
 /// What a text tells at once are the findings of its forest, each as often as the forest has it.
 pub fn groups_tell_each_finding()
-    // Law: the findings that a text tells together, level by level, are those of the forest, causes and
-    // what follows from them, each as often as the forest has it. So is it with `--all` and without.
+    // Law: the findings that a text tells together are those of the forest, causes and what follows from
+    // them, each as often as the forest has it. So is it with `--all` and without.
     ensures { GroupsTellEachFinding }
 {}
 
