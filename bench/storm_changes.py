@@ -55,7 +55,10 @@ def changed(script, draw):
             b.insert(i, draw.choice([("return", num(3)), ("print", ("me",)), ("do", ("new",)),
                                      ("do", join("me", num(1)))]))
         return put(script, path, b)
-    path, node = draw.choice(list(places([body for _, _, body in script])))
+    found = list(places([body for _, _, body in script]))
+    if not found:
+        return script
+    path, node = draw.choice(found)
     variables = [n[1] for p, n in places(script[path[0]][2]) if n[0] in ("let", "name")] + script[path[0]][1]
     path = (path[0], 2) + path[1:]
     kind = node[0]
