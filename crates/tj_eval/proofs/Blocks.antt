@@ -33,12 +33,16 @@ module _ {X A B : Type 0} (now : X → List A) (f : A → B) where
   abbrev seen : X → List B
   seen x = map f (now x)
 
-  -- a block of which nothing remains is left for the one around it
-  pub take-outer : (block : List A) (xs new : List X) (x : X) (s : A) (rest : List A) → length block ≡ 0
-      → xs ≡ new ++ x ∷ [] → now x ≡ s ∷ rest
-      → map f block ++ rest_of (map seen xs) ≡ f s ∷ (map f rest ++ rest_of (map seen new))
-  take-outer block xs new x s rest z e g = ap (λ b. map f b ++ rest_of (map seen xs)) (nil_of block z)
+  -- where nothing remains of two blocks, the last one of the list comes next
+  pub take-around : (block outer : List A) (xs new : List X) (x : X) (s : A) (rest : List A) → length block ≡ 0
+      → length outer ≡ 0 → xs ≡ new ++ x ∷ [] → now x ≡ s ∷ rest
+      → map f block ++ (map f outer ++ rest_of (map seen xs))
+      ≡ f s ∷ (map f rest ++ (map f outer ++ rest_of (map seen new)))
+  take-around block outer xs new x s rest z o e g =
+      ap (λ b. map f b ++ (map f outer ++ rest_of (map seen xs))) (nil_of block z)
+      ∙ ap (λ b. map f b ++ rest_of (map seen xs)) (nil_of outer o)
       ∙ ap (λ w. rest_of (map seen w)) e ∙ rest_of-push seen new x ∙ ap (λ w. map f w ++ rest_of (map seen new)) g
+      ∙ ap (λ w. f s ∷ (map f rest ++ w)) (ap (λ b. map f b ++ rest_of (map seen new)) (sym (nil_of outer o)))
 
 -- values in front of those that are still computed
 abbrev pub ahead : List Pay → Result (List Pay) Trouble → Result (List Pay) Trouble

@@ -184,6 +184,7 @@ impl<'s> State<'s> {
             script: self.script,
             limit: self.limit,
             block: self.block,
+            outer: self.outer,
             around: Vec::from_slice(alloc, &self.around)?,
             vars: Vec::from_slice(alloc, &self.vars)?,
             steps: self.steps,

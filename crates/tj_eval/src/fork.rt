@@ -119,6 +119,7 @@ pub(crate) fn task_of<'s>(
         script,
         limit,
         block: &decl.body.stmts,
+        outer: &[],
         around: Vec::new(alloc),
         vars: variables(vars, decl.vars.len())?,
         steps: limit,

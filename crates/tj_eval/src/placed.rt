@@ -232,6 +232,7 @@ fn given_up<'s>(alloc: Global, home: Home<'s>) -> Standing<'s>
         script: home.script,
         limit: 0,
         block: &[],
+        outer: &[],
         around: Vec::new(alloc),
         vars: Vec::new(alloc),
         steps: 0,

@@ -1,5 +1,5 @@
 //! A task of a script between two of its asks. It keeps positions in blocks: for each block that is
-//! open, the statements of it that remain. Each block but the innermost has some.
+//! open, the statements of it that remain.
 ghost use Rattle.std.specs.Prelude.{◌≡◌, [], ◌∷◌, ◌++◌, if◌then◌else◌, is_ok, OnOk, MatchOption, map};
 ghost use Rattle.tj_syntax.specs.View.{block, statement};
 ghost use Rattle.tj_eval.specs.Statements as state;
@@ -46,7 +46,9 @@ pub(crate) struct State<'s> {
     pub(crate) limit: u32,
     /// What remains of the innermost open block.
     pub(crate) block: &'s [Stmt],
-    /// The same of each block around it.
+    /// The same of the block around it, which takes no list where it lies here.
+    pub(crate) outer: &'s [Stmt],
+    /// The same of each block around these. Each has some.
     pub(crate) around: Vec<&'s [Stmt]>,
     pub(crate) vars: Vec<Pay>,
     pub(crate) steps: u32,
@@ -73,8 +75,8 @@ impl<'s> Model for State<'s> {
     ghost view = { λ b. record {
       script = shown.script b.script.now;
       limit = b.limit;
-      rest = map shown.statement b.block.now
-          ++ rest_of (map (λ block. map shown.statement block.now) b.around.items);
+      rest = map shown.statement b.block.now ++ (map shown.statement b.outer.now
+          ++ rest_of (map (λ block. map shown.statement block.now) b.around.items));
       vars = b.vars.items;
       steps = b.steps;
       places = b.places;
@@ -109,18 +111,29 @@ impl<'s> State<'s> {
             self.block = rest;
             return Some(stmt);
         }
+        if let Some((stmt, rest)) = self.outer.split_first() {
+            self.block = rest;
+            self.outer = &[];
+            return Some(stmt);
+        }
         let (stmt, rest) = self.around.pop()?.split_first()?;
         self.block = rest;
         Some(stmt)
     }
 
-    /// Lets these statements come first.
+    /// Lets these statements come first. A block goes onto the list only where another one lies in
+    /// front of it, so a task that opens one block at a time makes no list.
     #[inline(always)]
     pub(crate) fn open(&mut self, list: &'s [Stmt]) -> Result<(), Oom>
         ensures { OnOk result (self.new ≡ state.first (map statement list.now) self.old) }
     {
-        let outer = self.block;
+        let block = self.block;
         self.block = list;
+        if block.is_empty() {
+            return Ok(());
+        }
+        let outer = self.outer;
+        self.outer = block;
         if outer.is_empty() {
             return Ok(());
         }

@@ -6,4 +6,4 @@ use Rattle.tj_eval.proofs.state.State.open.Goals as goal
 pub returns : goal.returns
 returns c =
     rw (← c.self.view_is, c.in_ok-push.ensures)
-    (rw (rest_of-push (λ block. map statement block.now) c.self.inside.around.items c.self.inside.block) refl)
+    (rw (rest_of-push (λ block. map statement block.now) c.self.inside.around.items c.self.inside.outer) refl)
