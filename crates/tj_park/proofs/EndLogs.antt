@@ -14,6 +14,7 @@ use Rattle.tj_words.specs.declared.phase.Phase.TheVariants as phase
 use Rattle.tj_record.specs.declared.record.Fill.{Fill}
 use Rattle.tj_record.specs.declared.record.Finish.{Finish}
 use Rattle.tj_record.specs.declared.record.Rec.{Rec}
+use Rattle.tj_record.specs.TaskRecords.{ended_record}
 use Rattle.tj_words.specs.declared.view.View.{View}
 use Rattle.tj_park.proofs.ParkLogs.{closed_grows}
 use Rattle.tj_park.proofs.WakeLogs.{wake_grows}
@@ -99,8 +100,9 @@ module _ {B P : Type 0} (puts : P → CellId → P → Type 0) where
   pub stores_ended : (t : ℕ) (r : Rec B) {l : List CellId} {o : Option Finish} (f : Finish) (u v w x y : Seat B)
       (a b : P) → r.finish ≡ Some f → l ≡ drop 1 r.owned → BreaksEach puts (numbers l) u v a b → o ≡ r.finish
       → StepsOfClose t o v w → (x.log ≡ w.log) × (x.took ≡ w.took) → Makes (phase_entry t phase.Ended ∷ []) x y
-      → HasNotedNothing v.me.0 y.me.0 → StoresEnded puts t r u y a b
-  stores_ended t r f u v w x y a b finished owed breaks is closes still ends noted = record {
+      → HasNotedNothing v.me.0 y.me.0 → y.me.0.put_home ≡ ended_record r ∷ u.me.0.put_home
+      → StoresEnded puts t r u y a b
+  stores_ended t r f u v w x y a b finished owed breaks is closes still ends noted home = record {
     broken = v;
     closed = x;
     finish = f;
@@ -109,6 +111,7 @@ module _ {B P : Type 0} (puts : P → CellId → P → Type 0) where
     closes = closed_still t (closed_with f) v w x (closes f (is ∙ finished)) still;
     ends = ends;
     noted = noted;
+    put_home = home;
   }
 
   -- promises that are broken make the log longer

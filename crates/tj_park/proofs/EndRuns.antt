@@ -74,6 +74,10 @@ module _ {B : Type 0} {program : Bool → B → Program B} {t : ℕ} {r : Rec B}
     pub unnoted : HasNotedNothing v1 m4.0
     unnoted = steps.ended_unnoted program t r v e.may e.written e.ordered v1 e.broken (rest mine) e.others m4 end
 
+    -- the record was put home, and no other
+    pub sent_home : m4.0.put_home ≡ ended_record r ∷ v.put_home
+    sent_home = ap (λ (m : SeatMe B). m.0.put_home) end ∙ ap (λ l. ended_record r ∷ l) e.broken.put_home
+
     -- some of those who wait for the result were woken
     pub about_woken : {chain left : List ℕ} {v5 : View B} → HasWoken t chain left m4.0 v5 → v5.about ≡ v.about
     about_woken {chain} {left} {v5} woke =

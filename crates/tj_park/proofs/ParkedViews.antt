@@ -113,6 +113,7 @@ module _ {B : Type 0} where
                 };
                 tasks = looks.tasks;
                 closed = closed;
+                records = looks.records;
               },
               refl,
             )

@@ -84,4 +84,5 @@ module _ {B : Type 0} where
         plain_loads = refl;
         once_loads = refl;
         records = refl;
+        put_home = refl;
       }

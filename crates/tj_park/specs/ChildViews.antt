@@ -60,6 +60,7 @@ module _ {B : Type 0} where
     pub once_loads : w.once_loads ≡ v.once_loads
     -- the seat's step took this record
     pub records : w.records ≡ r ∷ v.records
+    pub put_home : w.put_home ≡ v.put_home
 
   -- the seat holds t, which has alarmed, of which this is the record, which waits for its cell; it has a token, and one
   -- more where it holds another task that has alarmed

@@ -12,6 +12,7 @@ use Rattle.tj_record.specs.declared.record.Fill.{Fill}
 use Rattle.tj_record.specs.declared.record.Finish.{Finish}
 use Rattle.tj_record.specs.declared.record.Finish.TheVariants as how
 use Rattle.tj_record.specs.declared.record.Rec.{Rec}
+use Rattle.tj_record.specs.TaskRecords.{ended_record}
 use Rattle.tj_park.specs.Wakes.{HasNotedNothing, WakesAll, WakesSome}
 
 -- what the result of a task that has finished like this is closed with
@@ -44,7 +45,8 @@ module _ {B P : Type 0} (puts : P → CellId → P → Type 0) where
     pub wakes : WakesSome puts same last closed new between b
 
   -- the promises that t owed by its record were broken, each with its wakes; its result was closed as its record says,
-  -- and then PHASE of t stored as Ended, by which nothing was noted
+  -- and then PHASE of t stored as Ended, by which nothing was noted; these steps put this one record home, its task
+  -- having ended
   pub record StoresEnded (t : ℕ) (r : Rec B) (old new : Seat B) (a b : P) : Type 0 where
     pub broken : Seat B
     pub closed : Seat B
@@ -54,6 +56,7 @@ module _ {B P : Type 0} (puts : P → CellId → P → Type 0) where
     pub closes : MakesClosed t (closed_with finish) broken closed
     pub ends : Makes (phase_entry t phase.Ended ∷ []) closed new
     pub noted : HasNotedNothing broken.me.0 new.me.0
+    pub put_home : new.me.0.put_home ≡ ended_record r ∷ old.me.0.put_home
 
   -- then all who waited for the result of t were woken, and LIVE was lowered at last
   pub record EndsTask (t : ℕ) (r : Rec B) (old new : Seat B) (a b : P) : Type 0 where

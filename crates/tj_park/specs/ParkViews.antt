@@ -66,11 +66,13 @@ module _ {B : Type 0} where
     pub steps : w.steps ≤ v.steps + park_steps cells
     pub pushes : HasFoundChains cells v w
 
-  -- t has left the seat, and stands in the chain of those who wait for its cell; no head was found shut since
+  -- t has left the seat, and stands in the chain of those who wait for its cell; no head was found shut since, and no
+  -- record was taken out of home
   pub record LeftTask (cells t : ℕ) (v w : View B) : Type 0 where
     pub parked : HasParked cells v w
     pub tasks : w.tasks ≡ let_go t v.tasks
     pub closed : w.closed ≡ v.closed
+    pub records : w.records ≡ v.records
 
   -- the head of the chain was found shut, once, so something has become of q; the wait is cleared, and t runs again
   -- with the seat

@@ -3,7 +3,7 @@ ghost use Rattle.std.specs.Prelude.{◌≡◌, ◌≢◌, ◌∷◌, IfSome, Non
 ghost use Rattle.tj_body.specs.Programs.{program_of};
 ghost use Rattle.tj_words.specs.Calls.ExchangeViews.{KnowsTable, missed};
 ghost use Rattle.tj_words.specs.CallLaws.StepCalls as call;
-ghost use Rattle.tj_words.specs.CallLaws.StepLogs.{IsLogged};
+ghost use Rattle.tj_words.specs.CallLaws.StepLogs.{IsLogged, KeepsBefore};
 ghost use Rattle.tj_words.specs.SeatViews.SeatSteps.{IsCellOf, IsSeatOf};
 ghost use Rattle.tj_words.specs.Words.Phases.{phase_word};
 ghost use Rattle.tj_park.specs.ChildViews.{Claimed};
@@ -33,7 +33,8 @@ pub fn claim<B: Body>(laid: &Laid<B>, seat: &mut WSeat<B>, t: CellId) -> Option<
         (phase_word p) seat.old seat.new }
     // The task is the seat's, as its record tells; the record tells a point of the task that is at
     // its start or has waited for a cell of which the seat knows what has become. It is the very
-    // record that the step of this call took out of home, which the seat's view has in front now.
+    // record that the step of this call took out of home, which the seat's view has in front now; it
+    // put no record home.
     ensures some { IfSome result (λ r. Claimed (program_of B.places B.awaits B.left B.asks B.then)
         t.0 r seat.old.me.0 seat.new.me.0) }
     // Its slot is the seat's, and empty.
@@ -41,6 +42,8 @@ pub fn claim<B: Body>(laid: &Laid<B>, seat: &mut WSeat<B>, t: CellId) -> Option<
     // The call is one step: the exchange of PHASE from Ready to Running, which found Ready.
     ensures log_some { result ≢ None → IsLogged (call.swaps_phase t.0) (phase_word Phase.Ready)
         (phase_word Phase.Running) (phase_word Phase.Ready) seat.old seat.new }
+    // Beside this one entry the seat keeps the view that it had before the call, after `None` too.
+    ensures before { KeepsBefore seat.old seat.new }
 {
     match laid.swap_phase(seat, t, Phase::Ready, Phase::Running) {
         Ok(()) => laid.slot_swap(seat, t, None),

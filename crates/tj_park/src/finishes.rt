@@ -64,8 +64,8 @@ pub fn finish<B: Body, P: Pool, R: Wait>(
     // Its record went home: in each table under the law in which a seat has the view that `finish`
     // leaves, and in which PHASE of the task is Ended, or no seat holds it, PHASE is Ended, and a
     // record of the task lies at home that owns nothing, and owes the promises that were broken and
-    // no others. That PHASE is Ended wherever a seat has this log, `steps` and the law
-    // `tj_laws::logged_phases` say.
+    // no others. That one of the two is so in each table in whose run a seat has had this view, and
+    // that the record at home is then that of `ended`, the law `tj_laws::ended_records` says.
     ensures home { OnOk result (OwesAtHome (program_of B.places B.awaits B.left B.asks B.then) t.0
         (drop 1 rec.owned) seat.new.me.0) }
     // The steps of this call are: for each promise that it owed, in the order in which it owned
@@ -76,7 +76,8 @@ pub fn finish<B: Body, P: Pool, R: Wait>(
     // but what these wakes note.
     ensures steps { OnOk result (EndsTask P.puts t.0 rec seat.old seat.new pool.old pool.new) }
     // After an error they are the first of these steps, up to one by which a task became ready that
-    // the pool refused.
+    // the pool refused. Where PHASE of the task was stored as Ended, they put one record home then,
+    // too: the one that was passed, with its task ended.
     ensures memory { OnErr result (FailsToEnd P.puts P.same t.0 rec seat.old seat.new
         pool.old pool.new) }
 {

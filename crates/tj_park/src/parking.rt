@@ -49,7 +49,7 @@ pub fn park<B: Body>(
     // The task has left the seat, which has nothing to come and its counts as before; at most 2N +
     // 6 steps. The seat has found no head shut and at most N chains since, N being the table's
     // number of cells. Each push asks for the chain found last (`left_log`), so there were at most
-    // N of them.
+    // N of them. No record was taken out of home.
     ensures left { IfLeft result (LeftTask laid.now.cells t.0 seat.old.me.0 seat.new.me.0) }
     // Whether it is left or runs again, the seat's steps put one record home, which is the one that was
     // passed.

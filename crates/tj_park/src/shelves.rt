@@ -4,7 +4,7 @@ ghost use Rattle.atomic_table.specs.Table.{rest};
 ghost use Rattle.tj_body.specs.Programs.{program_of};
 ghost use Rattle.tj_words.specs.Calls.LiveViews.{HasSlot};
 ghost use Rattle.tj_words.specs.CallLaws.StepCalls as call;
-ghost use Rattle.tj_words.specs.CallLaws.StepLogs.{IsLogged};
+ghost use Rattle.tj_words.specs.CallLaws.StepLogs.{IsLogged, KeepsBefore};
 ghost use Rattle.tj_words.specs.SeatViews.SeatSteps.{IsCellOf, IsSeatOf};
 ghost use Rattle.tj_park.specs.ChildViews.{MayShelve, shelved};
 
@@ -27,6 +27,8 @@ pub fn shelve<B: Body>(laid: &Laid<B>, seat: &mut WSeat<B>, t: CellId, rec: Rec<
     ensures me { seat.new.me ≡ (shelved t.0 rec seat.old.me.0, rest seat.old.me.1) }
     // The call is one step: LIVE is lowered.
     ensures log { (n : ℕ) × IsLogged call.lowers_live 1 0 n seat.old seat.new }
+    // Beside this entry the seat keeps the view that it had before the call.
+    ensures before { KeepsBefore seat.old seat.new }
 {
     drop(laid.slot_swap(seat, t, Some(rec)));
     laid.live_down(seat);

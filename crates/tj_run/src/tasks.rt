@@ -91,7 +91,8 @@ impl<B: Body, P: Pool, R: Wait> Post<'_, B, P, R> {
 
     /// Runs a claimed task until it leaves the worker. It comes back where it has waited in vain:
     /// something had become of its cell as it was to be parked. `parked` gets true where it leaves in a wait.
-    // No measure: no clause of `wait` tells that the record which comes back is the one that was passed.
+    // No measure: the record that comes back is the one that was passed, but that it waits (`wait` `same`),
+    // and no clause of `run_on` tells how far the task has come.
     #[inline(always)]
     pub(crate) fn run(&mut self, laid: &Laid<B>, rec: Rec<B>, parked: &mut bool) -> Result<(), Why>
         requires post { IsPostOf P.limit laid.now self.old }

@@ -10,7 +10,14 @@ ghost use Rattle.tj_run.specs.Workers.{table_program};
 ghost use Rattle.tj_run.specs.Inner.Carried.{IsAsked, IsWaiting, RunsTask};
 ghost use Rattle.tj_run.specs.Inner.Going.{Goes};
 ghost use Rattle.tj_run.specs.Inner.Posts.{IsPostOf, StaysAsked};
-ghost use Rattle.tj_run.specs.Inner.Waits.{ComesBack, HasBlocked, IsHeldAs, IsLeft, OpensLedger};
+ghost use Rattle.tj_run.specs.Inner.Waits.{
+  ComesBack,
+  HasBlocked,
+  IsHeldAs,
+  IsLeft,
+  OpensLedger,
+  waits_at,
+};
 
 use crate::next::{Next, Wanted};
 use crate::post::Post;
@@ -121,6 +128,7 @@ fn block_at<B: Body, L: Ledger>(
     ensures table { seat.new.table_id ≡ seat.old.table_id }
     ensures task { IsCellOf laid.now rec.new.cell.0 }
     ensures cell { IsCellOf laid.now result.0.0 }
+    ensures kept { rec.new ≡ waits_at place spare rec.old }
     ensures blocked { HasBlocked (program_of B.places B.awaits B.left B.asks B.then) laid.now
         rec.new result.0.0 result.1 result.2 seat.old.me seat.new.me }
     ensures log { Grows seat.old seat.new }
@@ -153,6 +161,8 @@ pub(crate) fn wait<B: Body>(
     ensures back { IfSome result (λ r. ComesBack (program_of B.places B.awaits B.left B.asks B.then)
         laid.now r seat.old.me.0 seat.new.me) }
     ensures log { Grows seat.old seat.new }
+    // The record that comes back is the one that was passed, but that it waits at the place.
+    ensures same { IfSome result (λ r. r ≡ waits_at place spare rec) }
 {
     let mut rec = rec;
     let (q, way, verdict) = block_at::<B, Brand>(laid, seat, &mut rec, place, spare, Blank::new(1));

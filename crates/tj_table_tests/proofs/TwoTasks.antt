@@ -91,6 +91,7 @@ module _ {B : Type 0} (program : Bool → B → Program B) (laid : Laid B) (r0 r
     plain_loads = c.plain_loads;
     once_loads = c.once_loads;
     records = c.records;
+    put_home = c.put_home;
   }
 
   pub back : ComesBack program laid r (alone r m.0) me

@@ -15,3 +15,7 @@ returns-in-Ok-clause-some g c = (claimed _ c.args.t.0 c.args.seat.now.me c.swap_
 pub returns-in-Ok-clause-log_some : goal.returns-in-Ok-clause-log_some
 returns-in-Ok-clause-log_some g c = λ _. let stays = c.slot_swap.ensures.log in let log = c.in-Ok.ensures.log_swapped in
     (stays.0 ∙ log.0, stays.1 ∙ log.1)
+
+pub returns-in-Ok-clause-before : goal.returns-in-Ok-clause-before
+returns-in-Ok-clause-before g c = let stays = c.slot_swap.ensures.before in let swap = c.swap_phase.ensures.before in
+    (stays.0 ∙ swap.0, stays.1 ∙ swap.1)

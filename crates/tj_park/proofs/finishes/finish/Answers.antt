@@ -1,7 +1,7 @@
 use Rattle.tj_park.proofs.Prelude.{MayBreak, inl, inr, numbers, program_of, result_of, subst, sym, ◌∙◌}
 use Rattle.tj_park.proofs.EndSteps.{is_cell, may_break}
 use Rattle.tj_park.proofs.EndRuns.{begun, may_close, laid, may_end, at_end, may_wake, unnoted, about_woken, notes_woken}
-use Rattle.tj_park.proofs.EndRuns.{may_lower, finished, slots_then, unnoted_last}
+use Rattle.tj_park.proofs.EndRuns.{may_lower, finished, sent_home, slots_then, unnoted_last}
 use Rattle.tj_park.proofs.EndLogs.{stores_ended}
 use Rattle.tj_park.proofs.OwedRecords.{closes_once, owes_at_home}
 use Rattle.tj_park.proofs.WakeLoops.{on_err}
@@ -129,7 +129,7 @@ returns-clause-steps g c =
           c.close_result.new.seat c.slot_swap.new.seat c.put_phase.new.seat c.args.pool.now
           c.break_promises.new.pool m.finished c.promises.ensures.promises c.in_ok-break_promises.ensures.breaks
           c.finish.ensures c.close_result.ensures.log c.slot_swap.ensures.log c.put_phase.ensures.log
-          (unnoted e end);
+          (unnoted e end) (sent_home e end);
       wakes = c.in_ok-wake.ensures.woke;
       lowers = c.live_down.ensures.log.1;
       noted = unnoted_last e end c.in_ok-wake.ensures.woke.woke c.wake.ensures.seat.2 c.live_down.ensures.me;
@@ -156,7 +156,7 @@ returns-in_err-wake-clause-memory g c =
           c.close_result.new.seat c.slot_swap.new.seat c.put_phase.new.seat c.args.pool.now
           c.break_promises.new.pool m.finished c.promises.ensures.promises c.in_ok-break_promises.ensures.breaks
           c.finish.ensures c.close_result.ensures.log c.slot_swap.ensures.log c.put_phase.ensures.log
-          (unnoted e end),
+          (unnoted e end) (sent_home e end),
       c.in_err-wake.ensures.memory,
     ))
 

@@ -89,3 +89,6 @@ pub returns-clause-log : goal.returns-clause-log
 returns-clause-log g c = let y = c.way_to-way in let z = c.block-verdict in
     grows_on c.args.seat.now y.new.seat z.new.seat y.ensures.log (block_grows y.new.seat z.new.seat
     c.args.laid.now.cells c.cell-t.result.0 c.at-h.result.cell y.result z.result z.ensures.log)
+
+pub returns-clause-kept : goal.returns-clause-kept
+returns-clause-kept g c = c.set_wait.ensures

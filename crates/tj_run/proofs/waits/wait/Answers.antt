@@ -43,6 +43,7 @@ returns-in-Left g c = let x = c.block_at-way in record {
   back = tt;
   log = grows_on c.args.seat.now x.new.seat c.park.new.seat x.ensures.log (park_grows c.cell-t.result.0 x.result.0.0
       x.result.1 x.new.seat c.park.new.seat c.in-Left.ensures.left_log);
+  same = tt;
 }
 
 pub returns-in-Back : goal.returns-in-Back
@@ -56,6 +57,7 @@ returns-in-Back g c = let x = c.block_at-way in let b = g.B.Body in record {
       (c.in-Back.ensures.back_slot ∙ ap (λ (t : CellId). (t.0, None) ∷ rest x.new.seat.me.1) c.cell-t.ensures);
   log = grows_on c.args.seat.now x.new.seat c.park.new.seat x.ensures.log (return_grows c.cell-t.result.0
       x.result.0.0 x.result.1 x.new.seat c.park.new.seat c.in-Back.ensures.back_log);
+  same = c.in-Back.ensures.same ∙ x.ensures.kept;
 }
 
 pub returns-in-Alarm-clause-log : goal.returns-in-Alarm-clause-log
