@@ -30,3 +30,6 @@ pub mod LoggedPhases
 pub mod FirstPromises
 pub mod FirstWakes
 pub mod NotedPuts
+pub mod PutRecords
+pub mod EndedRecords
+pub mod EndedStores

@@ -17,7 +17,7 @@ use Rattle.tj_words.specs.Words.Lists.{AreApart}
 use Rattle.tj_laws.specs.SlotsInHand.{AreOut, HandsAreApart, RecordsStayHome}
 
 -- what is put in place of an element stands there
-put_there : {A : Type 0} (l : List A) (i : ℕ) (a b : A) → get_elem? l i ≡ some a → get_elem? (set l i b) i ≡ some b
+pub put_there : {A : Type 0} (l : List A) (i : ℕ) (a b : A) → get_elem? l i ≡ some a → get_elem? (set l i b) i ≡ some b
 put_there [] i a b e = absurd (some-ne-none a (sym e))
 put_there (x ∷ xs) zero a b e = refl
 put_there (x ∷ xs) (suc i) a b e = put_there xs i a b e

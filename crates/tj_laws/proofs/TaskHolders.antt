@@ -95,7 +95,7 @@ module _ {B : Type 0} where
     one_holder t i j h k = one_some i j (sym (holder_is t i h) ∙ holder_is t j k)
 
     -- a task without a holder is free
-    free_of : (t : ℕ) → r.custody.holder t ≡ None → IsFree x t
+    pub free_of : (t : ℕ) → r.custody.holder t ≡ None → IsFree x t
     free_of t e j h = some_none (holder_is t j h) e
 
     held_there : (t j : ℕ) → Holds x j t → t < drawn_in cells x

@@ -13,3 +13,4 @@ pub mod StrictJoins
 pub mod SlotsInHand
 pub mod ClosedNames
 pub mod LoggedPhases
+pub mod EndedRecords
