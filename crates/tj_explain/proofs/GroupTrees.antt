@@ -13,7 +13,7 @@ use Rattle.tj_findings.specs.Forests.{Tree}
 use Rattle.tj_findings.specs.Groups.{Group, alone, belongs, grouped, with_tree}
 use Rattle.tj_findings.specs.declared.finding.Finding.{Finding}
 use Rattle.tj_forest.proofs.Permuted.{map_append, permuted_last, permuted_same}
-use Rattle.tj_explain.specs.GroupTrees.{AreSomeOf, GroupsAreOfTrees, group_of}
+use Rattle.tj_explain.specs.GroupTrees.{AreSomeOf, GroupsAreOfTrees, LeavesAreGrouped, group_of}
 
 -- the causes of trees
 abbrev roots : List Tree → List Finding
@@ -186,7 +186,7 @@ each_first : (ts : List Tree) → Sub (firsts (map single ts)) ts
 each_first [] = refl
 each_first (t ∷ ts) = sub_cons t (firsts (map single ts)) ts (each_first ts)
 
--- the law
+-- the law of causes
 pub groups_are_of_trees : GroupsAreOfTrees
 groups_are_of_trees true ts = (
   map single ts,
@@ -202,3 +202,7 @@ groups_are_of_trees false ts = (
   (λ us i. marked us ts (all_sub ts [] [] (λ vs j. absurd j) us i)),
   marked (firsts (fold parted [] ts)) ts (all_firsts ts []),
 )
+
+-- and of what follows from them
+pub leaves_are_grouped : LeavesAreGrouped
+leaves_are_grouped all fs = refl

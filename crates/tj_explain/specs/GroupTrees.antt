@@ -3,8 +3,9 @@ use Rattle.std.specs.Prelude.{◌≡◌, Bool, List, map, take}
 use Rattle.std.specs.List.{flat_map, items_where_true}
 use Rattle.std.specs.List.Sorted.{IsPermutation}
 use Rattle.tj_body.specs.Points.{IsIn}
-use Rattle.tj_findings.specs.Forests.{Tree}
-use Rattle.tj_findings.specs.Groups.{Group, groups}
+use Rattle.tj_findings.specs.Forests.{Tree, bare}
+use Rattle.tj_findings.specs.Groups.{Group, groups, leaf_groups}
+use Rattle.tj_findings.specs.declared.finding.Finding.{Finding}
 
 -- these causes together, and what follows from the first, from the second, and so on
 abbrev pub group_of : List Tree → Group
@@ -22,3 +23,7 @@ GroupsAreOfTrees = (all : Bool) (ts : List Tree) → (parts : List (List Tree))
     × IsPermutation ts (flat_map (λ us. us) parts)
     × ((us : List Tree) → IsIn us parts → AreSomeOf us ts)
     × AreSomeOf (flat_map (λ us. take 1 us) parts) ts
+
+-- what follows from causes is put into groups as causes are, each finding as a tree by itself
+abbrev pub LeavesAreGrouped : Type 0
+LeavesAreGrouped = (all : Bool) (fs : List Finding) → leaf_groups all fs ≡ groups all (map bare fs)

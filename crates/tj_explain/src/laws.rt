@@ -3,7 +3,7 @@ ghost use Rattle.std.specs.Prelude.{ℕ, ◌≡◌, List, String};
 ghost use Rattle.std.specs.declared.alloc.Global.{Global};
 ghost use Rattle.tj_command.specs.declared.status.Status.{Status};
 ghost use Rattle.tj_explain.specs.FullPlaces.{TextsTellFull};
-ghost use Rattle.tj_explain.specs.GroupTrees.{GroupsAreOfTrees};
+ghost use Rattle.tj_explain.specs.GroupTrees.{GroupsAreOfTrees, LeavesAreGrouped};
 ghost use Rattle.tj_explain.specs.GroupsTold.{GroupsTellEachFinding};
 ghost use Rattle.tj_explain.specs.ToldFindings.{TextsTellFindings};
 ghost use Rattle.tj_explain.specs.WhyOutput.{IsOutput};
@@ -60,11 +60,12 @@ pub fn groups_tell_each_finding()
     ensures { GroupsTellEachFinding }
 {}
 
-/// Below a group stands what follows from its own causes.
+/// Below a group stands what follows from its own causes, and this is put into groups as causes are.
 pub fn groups_keep_what_follows()
     // Law: each group of the causes of a forest is of some of its trees, in their order: its members are
     // their causes, and below it stands what follows from these, from the first, from the second and so
     // on, and nothing else. Each tree is in one group, as often as the forest has it, and the groups stand
-    // in the order of their first trees. So is it with `--all` and without.
-    ensures { GroupsAreOfTrees }
+    // in the order of their first trees. So is it with `--all` and without. What follows from the causes
+    // of a group is put into groups as causes are, each finding as a tree by itself.
+    ensures { GroupsAreOfTrees × LeavesAreGrouped }
 {}

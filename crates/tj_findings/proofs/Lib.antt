@@ -4,3 +4,4 @@ mod TableRows
 mod ChildNames
 pub mod PlainTexts
 pub mod PlainParts
+pub mod PartsInOrder

@@ -30,6 +30,11 @@ pub record StandsIn (part text : List ℕ) : Type 0 where
   pub behind : List ℕ
   pub is : text ≡ before ++ part ++ behind
 
+-- these stand in the text one behind the other, in this order
+abbrev pub StandInOrder : List (List ℕ) → List ℕ → Type 0
+StandInOrder [] text = Unit {0}
+StandInOrder (p ∷ ps) text = (i : StandsIn p text) × StandInOrder ps i.behind
+
 -- no name of a task or of a variable has a line feed
 pub record HasPlainNames (s : Told) : Type 0 where
   pub tasks : (n : ℕ) (d : Task) → slice_get s.script n ≡ Some d → IsPlain d.name

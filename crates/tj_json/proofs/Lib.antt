@@ -1,2 +1,3 @@
 mod ObjectLines
 mod ObjectNames
+mod ObjectBeginnings

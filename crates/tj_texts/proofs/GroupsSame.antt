@@ -38,7 +38,7 @@ pair_same : (a b c d : ℕ) → a ≡ b → c ≡ d → (nat_eq a b && nat_eq c 
 pair_same a b c d p q = both_true (nat_eq a b) (nat_eq c d) (eq-eqb a b p) (eq-eqb c d q)
 
 -- where tasks stopped
-stand_alike : (t u : ToldTask) → same_stand t u ≡ true → StandAlike t u
+pub stand_alike : (t u : ToldTask) → same_stand t u ≡ true → StandAlike t u
 stand_alike t u e = same_pair t.decl u.decl t.at u.at e
 
 alike_stand : (t u : ToldTask) → StandAlike t u → same_stand t u ≡ true

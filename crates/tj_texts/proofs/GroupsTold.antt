@@ -37,7 +37,7 @@ tell_each s all f =
     ∙ sym (flat_map-append (together_text s all) told (map (λ g. (0, g ∷ [])) f.strays))
 
 -- lists that are appended, element by element
-pub map_both : {A B : Type 0} (h : A → B) (xs ys : List A) → map h (xs ++ ys) ≡ map h xs ++ map h ys
+map_both : {A B : Type 0} (h : A → B) (xs ys : List A) → map h (xs ++ ys) ≡ map h xs ++ map h ys
 map_both h [] ys = refl
 map_both h (x ∷ xs) ys = ap (λ z. h x ∷ z) (map_both h xs ys)
 

@@ -8,3 +8,4 @@ mod GroupsTold
 mod GroupsSame
 mod NamesTold
 mod PartsAgreed
+mod LinesAgreed

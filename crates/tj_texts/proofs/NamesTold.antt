@@ -1,12 +1,13 @@
--- What is told of findings that say the same has their names and their count.
+-- What is told of findings that say the same begins with the word of their kind, and has their names and their count.
 use Rattle.std.proofs.Common.{◌<◌, ◌≤◌, ◌+◌, inl, inr, zero, suc, arith}
 use Rattle.std.proofs.Common.{◌≡◌, ℕ, Bool, true, false, ◌||◌, nat_eq, nat_le, cond, List, [], ◌∷◌, ◌++◌, length}
 use Rattle.std.proofs.Common.{map, Option, Some, None}
-use Rattle.std.proofs.Common.{◌-◌, refl, sym, ap, subst, ◌∙◌, append_assoc, append-nil, eqb-true}
+use Rattle.std.proofs.Common.{◌-◌, refl, sym, ap, subst, ◌∙◌, append_assoc, eqb-true}
 use Rattle.std.specs.Prelude.{codes, decimal, option_to_list, slice_get, unwrap_or}
-use Rattle.std.specs.List.{list_all, range_with_len}
+use Rattle.std.specs.List.{flat_map, list_all, range_with_len}
 use Rattle.std.specs.Option.{option_map}
 use Rattle.std.proofs.lemmas.Bool.Decides.{nat_tests}
+use Rattle.std.proofs.lemmas.Grind.{flat_map-append}
 use Rattle.tj_base.specs.ForkOrder.{Name}
 use Rattle.tj_base.specs.Texts.{name_text}
 use Rattle.tj_base.specs.declared.cause.Cause.{Cause}
@@ -16,82 +17,81 @@ use Rattle.tj_mean.specs.ReportTexts.{line_feed}
 use Rattle.tj_trace.specs.declared.line.Maker.{Maker}
 use Rattle.tj_findings.specs.Arguments.{arguments_text}
 use Rattle.tj_findings.specs.Groups.{cells_told, same_maker, tasks_told, waits_at}
-use Rattle.tj_findings.specs.LinesTold.{StandsIn}
+use Rattle.tj_findings.specs.LinesTold.{StandInOrder, StandsIn}
+use Rattle.tj_findings.specs.LetNames.{let_name, let_text}
 use Rattle.tj_findings.specs.PartTexts.{made_text, promise_text, stopped_word, where_agreed}
-use Rattle.tj_findings.specs.Scenes.{Told, forked_text, label, name_of, stop_text, task_at}
+use Rattle.tj_findings.specs.Scenes.{Told, forked_text, label, name_of, spot_text, stop_text, task_at}
 use Rattle.tj_findings.specs.declared.finding.Finding.{Finding}
 use Rattle.tj_findings.specs.declared.finding.Finding.TheVariants as finding
 use Rattle.tj_findings.specs.declared.finding.ToldCell.{ToldCell}
 use Rattle.tj_findings.specs.declared.finding.ToldTask.{ToldTask}
 use Rattle.tj_findings.specs.declared.finding.Wait.{Wait}
+use Rattle.tj_findings.proofs.PartsInOrder.{all_before, all_both, behind_more, whole}
 use Rattle.tj_texts.specs.GroupLaws.{AllStandAlike, SaySame}
-use Rattle.tj_texts.specs.LineLaws.{HaveNames, StandInOrder, count_parts, finding_name, member_name, names_part}
-use Rattle.tj_texts.specs.LineLaws.{told_numbers}
+use Rattle.tj_texts.specs.LineLaws.{BeginsSo, HaveNames, cycles_head, finding_name, member_name}
+use Rattle.tj_texts.specs.LineLaws.{names_part, owed_words, spaced_names, stop_part, wait_part}
 use Rattle.tj_texts.specs.WhyTexts as why
-use Rattle.tj_texts.proofs.GroupsTold.{map_both}
 use Rattle.tj_texts.proofs.TextsOfLines.{at_place}
 
--- what stands in a text stands in it with more behind it
-abbrev before_more : (p x y : List ℕ) → StandsIn p x → StandsIn p (x ++ y)
-before_more p x y i = record {
-  before = i.before;
-  behind = i.behind ++ y;
-  is = ap (λ z. z ++ y) i.is ∙ append_assoc (i.before ++ p) i.behind y;
-}
+-- the text begins with the part
+abbrev Begins : List ℕ → List ℕ → Type 0
+Begins p text = (rest : List ℕ) × (text ≡ p ++ rest)
 
--- and with more in front of it
-abbrev behind_more : (p x y : List ℕ) → StandsIn p y → StandsIn p (x ++ y)
-behind_more p x y i = record {
-  before = x ++ i.before;
-  behind = i.behind;
-  is = ap (λ z. x ++ z) i.is ∙ sym (append_assoc x (i.before ++ p) i.behind)
-      ∙ ap (λ z. z ++ i.behind) (sym (append_assoc x i.before p));
-}
+-- it does so with more behind it
+longer : (p x y : List ℕ) → Begins p x → Begins p (x ++ y)
+longer p x y i = (i.0 ++ y, ap (λ z. z ++ y) i.1 ∙ append_assoc p i.0 y)
 
--- the same of several
-all_behind : (ps : List (List ℕ)) (x y : List ℕ) → StandInOrder ps y → StandInOrder ps (x ++ y)
-all_behind [] x y all = tt
-all_behind (p ∷ ps) x y all = (behind_more p x y all.0, all.1)
+-- and with the same in front of both
+further : (w p x : List ℕ) → Begins p x → Begins (w ++ p) (w ++ x)
+further w p x i = (i.0, ap (λ z. w ++ z) i.1 ∙ sym (append_assoc w p i.0))
 
-all_before : (ps : List (List ℕ)) (x y : List ℕ) → StandInOrder ps x → StandInOrder ps (x ++ y)
-all_before [] x y all = tt
-all_before (p ∷ ps) x y all = (before_more p x y all.0, all_before ps all.0.behind y all.1)
+-- the text begins so, with more behind it
+so_more : (h : List ℕ) (ps : List (List ℕ)) (x y : List ℕ) → BeginsSo h ps x → BeginsSo h ps (x ++ y)
+so_more h ps x y i = (i.0 ++ y, ap (λ z. z ++ y) i.1 ∙ append_assoc h i.0 y, all_before ps i.0 y i.2)
 
-all_both : (ps qs : List (List ℕ)) (x y : List ℕ) → StandInOrder ps x → StandInOrder qs y
-    → StandInOrder (ps ++ qs) (x ++ y)
-all_both [] qs x y all more = all_behind qs x y more
-all_both (p ∷ ps) qs x y all more = (before_more p x y all.0, all_both ps qs all.0.behind y all.1 more)
+-- and with the same in front of both
+so_further : (w h : List ℕ) (ps : List (List ℕ)) (x : List ℕ) → BeginsSo h ps x → BeginsSo (w ++ h) ps (w ++ x)
+so_further w h ps x i = (i.0, ap (λ z. w ++ z) i.1 ∙ sym (append_assoc w h i.0), i.2)
 
--- a text stands at the beginning of one
-at_first : (p y : List ℕ) → StandsIn p (p ++ y)
-at_first p y = record { before = []; behind = y; is = refl }
+-- a part of what stands behind a text that begins so
+so_part : (h q x y : List ℕ) → Begins h x → StandsIn q y → BeginsSo h (q ∷ []) (x ++ y)
+so_part h q x y i stands =
+    (i.0 ++ y, ap (λ z. z ++ y) i.1 ∙ append_assoc h i.0 y, (behind_more q i.0 y stands, tt))
 
--- it stands in itself
-whole : (p : List ℕ) → StandsIn p p
-whole p = record { before = []; behind = []; is = sym (append-nil p) }
+-- the parts stand in the text, the first of them in front
+so_in_order : (h : List ℕ) (ps : List (List ℕ)) (x : List ℕ) → BeginsSo h ps x → StandInOrder (h ∷ ps) x
+so_in_order h ps x i = (record { before = []; behind = i.0; is = i.1 }, i.2)
+
+-- four parts, the last three as one
+last_three : (a b c d : List ℕ) → a ++ b ++ c ++ d ≡ a ++ (b ++ c ++ d)
+last_three a b c d = ap (λ z. z ++ d) (append_assoc a b c) ∙ append_assoc a (b ++ c) d
 
 -- several names
-in_names : (xs : List Name) → StandsIn (names_part xs) (why.first_names xs)
-in_names [] = whole []
-in_names (x ∷ []) = whole (names_part (x ∷ []))
-in_names (x ∷ y ∷ []) = whole (names_part (x ∷ y ∷ []))
-in_names (x ∷ y ∷ z ∷ more) = whole (names_part (x ∷ y ∷ z ∷ more))
+same_names : (xs : List Name) → why.first_names xs ≡ names_part xs
+same_names [] = refl
+same_names (x ∷ []) = refl
+same_names (x ∷ y ∷ []) = refl
+same_names (x ∷ y ∷ z ∷ more) = refl
 
--- one more in front
-one_first : (p : List ℕ) (ps : List (List ℕ)) (x y : List ℕ) → StandsIn p x → StandInOrder ps y
-    → StandInOrder (p ∷ ps) (x ++ y)
-one_first p ps x y i rest = (before_more p x y i, all_behind ps i.behind y rest)
+-- with a blank behind them
+spaced : (xs : List Name) (b : List ℕ) → Begins (spaced_names xs) (why.first_names xs ++ (codes " " ++ b))
+spaced xs b =
+    (b, ap (λ z. z ++ (codes " " ++ b)) (same_names xs) ∙ sym (append_assoc (names_part xs) (codes " ") b))
 
--- how many cycles there are
-in_count : (n : ℕ) → StandInOrder (count_parts n) (codes "deadlock: " ++ why.times n)
-in_count n = by (nat_eq n 1) where
-  p : List ℕ
-  p = codes "deadlock: " ++ decimal n ++ codes " times "
+-- how many cycles there are, and of how many tasks
+pub cycles_begin : (k n : ℕ) (rest : List ℕ)
+    → codes "deadlock: " ++ why.times k ++ why.tasks_text n ++ why.each_other n ++ rest ≡ cycles_head k n ++ rest
+cycles_begin k n rest = ap (λ z. z ++ rest) (by (nat_eq n 1)) where
+  first : List ℕ
+  first = codes "deadlock: " ++ why.times k
 
-  by : (b : Bool) → StandInOrder (cond b [] (p ∷ []))
-      (codes "deadlock: " ++ cond b [] (decimal n ++ codes " times "))
-  by true = tt
-  by false = (subst (StandsIn p) (append_assoc (codes "deadlock: ") (decimal n) (codes " times ")) (whole p), tt)
+  by : (b : Bool) → first ++ cond b (codes "1 task") (decimal n ++ codes " tasks")
+      ++ cond b (codes " waits for itself\n") (codes " wait for each other\n")
+      ≡ first ++ cond b (codes "1 task waits for itself\n") (decimal n ++ codes " tasks wait for each other\n")
+  by true = append_assoc first (codes "1 task") (codes " waits for itself\n")
+  by false =
+      append_assoc first (decimal n ++ codes " tasks") (codes " wait for each other\n")
+      ∙ ap (λ z. first ++ z) (append_assoc (decimal n) (codes " tasks") (codes " wait for each other\n"))
 
 -- the names of tasks, and of the tasks of waits
 abbrev task_names : List ToldTask → List Name
@@ -170,89 +170,132 @@ cycle_names ws n less (finding.Echo u p r ∷ gs) same = absurd (same (finding.E
 
 module _ (s : Told) where
   -- a task with its declaration
-  in_label : (t : ToldTask) → StandsIn (name_text t.name) (label s t)
+  in_label : (t : ToldTask) → Begins (spaced_names (t.name ∷ [])) (label s t)
   in_label t =
-      let p = name_text t.name in
+      let p = spaced_names (t.name ∷ []) in
       let name = name_of (slice_get s.script t.decl) in
       let values = arguments_text (slice_get s.script t.decl) t.began in
-      let begun = p ++ codes " (task " in
-      before_more p (begun ++ name ++ values ++ forked_text s t.fork) (codes ")")
-      (before_more p (begun ++ name ++ values) (forked_text s t.fork)
-      (before_more p (begun ++ name) values (before_more p begun name (at_first p (codes " (task ")))))
+      let begun = name_text t.name ++ codes " (task " in
+      longer p (begun ++ name ++ values ++ forked_text s t.fork) (codes ")")
+      (longer p (begun ++ name ++ values) (forked_text s t.fork)
+      (longer p (begun ++ name) values (longer p begun name (spaced (t.name ∷ []) (codes "(task ")))))
 
   -- tasks
   in_tasks : (t : ToldTask) (ts : List ToldTask)
-      → StandsIn (names_part (task_names (t ∷ ts))) (why.tasks_named s (t ∷ ts))
+      → Begins (spaced_names (task_names (t ∷ ts))) (why.tasks_named s (t ∷ ts))
   in_tasks t [] = in_label t
   in_tasks t (u ∷ more) =
-      let p = names_part (task_names (t ∷ u ∷ more)) in
+      let p = spaced_names (task_names (t ∷ u ∷ more)) in
       let names = why.first_names (task_names (t ∷ u ∷ more)) in
       let name = name_of (slice_get s.script t.decl) in
-      before_more p (names ++ codes " of task " ++ name)
+      longer p (names ++ codes " of task " ++ name)
       (where_agreed (list_all (λ v. same_maker t.fork v.fork) (t ∷ u ∷ more)) (why.fork_text s t.fork))
-      (before_more p (names ++ codes " of task ") name
-      (before_more p names (codes " of task ") (in_names (task_names (t ∷ u ∷ more)))))
+      (longer p (names ++ codes " of task ") name (spaced (task_names (t ∷ u ∷ more)) (codes "of task ")))
 
   -- a line for waits
-  in_wait : (w : Wait) (ws : List Wait) → StandsIn (names_part (wait_names (w ∷ ws))) (why.wait_text s w (w ∷ ws))
+  in_wait : (w : Wait) (ws : List Wait) → BeginsSo (spaced_names (wait_names (w ∷ ws)))
+      (stop_part s w.task (codes " for ") ∷ []) (why.wait_text s w (w ∷ ws))
   in_wait w ws =
-      let p = names_part (wait_names (w ∷ ws)) in
-      let names = why.tasks_named s (map (λ v. v.task) (w ∷ ws)) in
-      let waits = why.one_or (length (w ∷ ws)) (codes " waits at ") (codes " wait at ") in
-      let cell = why.cell_text s w (w ∷ ws) in
-      before_more p (names ++ waits ++ stop_text s w.task ++ codes " for " ++ cell) line_feed
-      (before_more p (names ++ waits ++ stop_text s w.task ++ codes " for ") cell
-      (before_more p (names ++ waits ++ stop_text s w.task) (codes " for ")
-      (before_more p (names ++ waits) (stop_text s w.task)
-      (before_more p names waits (in_tasks w.task (map (λ v. v.task) ws))))))
+      so_more p (q ∷ []) (names ++ waits ++ stop ++ codes " for " ++ cell) line_feed
+      (so_more p (q ∷ []) (names ++ waits ++ stop ++ codes " for ") cell
+      (subst (BeginsSo p (q ∷ [])) (sym (last_three names waits stop (codes " for ")))
+      (so_part p q names (waits ++ stop ++ codes " for ") (in_tasks w.task (map (λ v. v.task) ws))
+      (by (nat_eq (length (w ∷ ws)) 1))))) where
+        p : List ℕ
+        p = spaced_names (wait_names (w ∷ ws))
+
+        names : List ℕ
+        names = why.tasks_named s (map (λ v. v.task) (w ∷ ws))
+
+        waits : List ℕ
+        waits = why.one_or (length (w ∷ ws)) (codes " waits at ") (codes " wait at ")
+
+        stop : List ℕ
+        stop = stop_text s w.task
+
+        cell : List ℕ
+        cell = why.cell_text s w (w ∷ ws)
+
+        q : List ℕ
+        q = stop_part s w.task (codes " for ")
+
+        by : (b : Bool) → StandsIn q (cond b (codes " waits at ") (codes " wait at ") ++ stop ++ codes " for ")
+        by true = behind_more q (codes " waits") q (whole q)
+        by false = behind_more q (codes " wait") q (whole q)
 
   -- tasks that failed
   in_failed : (t : ToldTask) (fs : List Finding) (ts : List ToldTask) → tasks_told fs ≡ t ∷ ts
-      → StandsIn (names_part (task_names (t ∷ ts))) (why.failed_text s t fs)
+      → BeginsSo (codes "failed: " ++ spaced_names (task_names (t ∷ ts))) (stop_part s t (codes ": ") ∷ [])
+      (why.failed_text s t fs)
   in_failed t fs ts is =
-      let p = names_part (task_names (t ∷ ts)) in
+      let them = spaced_names (task_names (t ∷ ts)) in
+      let p = codes "failed: " ++ them in
+      let q = stop_part s t (codes ": ") in
       let names = codes "failed: " ++ why.tasks_named s (tasks_told fs) in
-      before_more p (names ++ codes " at " ++ stop_text s t) (codes ": ")
-      (before_more p (names ++ codes " at ") (stop_text s t)
-      (before_more p names (codes " at ")
-      (behind_more p (codes "failed: ") (why.tasks_named s (tasks_told fs))
-      (subst (λ z. StandsIn p (why.tasks_named s z)) (sym is) (in_tasks t ts)))))
+      subst (BeginsSo p (q ∷ [])) (sym (last_three names (codes " at ") (stop_text s t) (codes ": ")))
+      (so_part p q names q
+      (further (codes "failed: ") them (why.tasks_named s (tasks_told fs))
+      (subst (λ z. Begins them (why.tasks_named s z)) (sym is) (in_tasks t ts))) (whole q))
+
+  -- behind the statement that made a promise, if it is told, stands a blank
+  made_spaced : (m : Option Maker) (b : List ℕ) → Begins (codes " ") (made_text s m ++ (codes " " ++ b))
+  made_spaced None b = (b, refl)
+  made_spaced (Some m) b = (
+    codes "(" ++ let_text (let_name s m) ++ codes "made at " ++ spot_text s m.decl m.at ++ codes ")"
+        ++ (codes " " ++ b),
+    refl,
+  )
+
+  -- so there is one behind the name
+  named_made : (x : List ℕ) (m : Option Maker) (b : List ℕ)
+      → Begins (x ++ codes " ") (x ++ made_text s m ++ (codes " " ++ b))
+  named_made x m b =
+      let i = made_spaced m b in (
+        i.0,
+        append_assoc x (made_text s m) (codes " " ++ b) ∙ ap (λ z. x ++ z) i.1 ∙ sym (append_assoc x (codes " ") i.0),
+      )
 
   -- a promise that was owed
-  in_debt : (q : ToldCell) (t : ToldTask) → StandsIn (name_text q.name) (why.debt_line s q t)
+  in_debt : (q : ToldCell) (t : ToldTask)
+      → Begins (codes "owed: the promise " ++ spaced_names (q.name ∷ [])) (why.debt_line s q t)
   in_debt q t =
-      let p = name_text q.name in
+      let x = name_text q.name in
+      let p = codes "owed: the promise " ++ spaced_names (q.name ∷ []) in
       let did = codes " owned it and " ++ stopped_word t.stop ++ codes " at " in
-      let owed = codes "owed: " ++ promise_text s q in
-      before_more p (owed ++ codes " was never set: " ++ task_at s t did) line_feed
-      (before_more p (owed ++ codes " was never set: ") (task_at s t did)
-      (before_more p owed (codes " was never set: ")
-      (behind_more p (codes "owed: ") (promise_text s q)
-      (before_more p (codes "the promise " ++ p) (made_text s q.maker)
-      (behind_more p (codes "the promise ") p (whole p))))))
+      let owed = codes "owed: " ++ promise_text s q ++ codes " was never set: " in
+      longer p (owed ++ task_at s t did) line_feed
+      (longer p owed (task_at s t did)
+      (further (codes "owed: the promise ") (x ++ codes " ") (x ++ made_text s q.maker ++ codes " was never set: ")
+      (named_made x q.maker (codes "was never set: "))))
 
   -- promises that were owed
   in_owed : (q : ToldCell) (t : ToldTask) (gs : List Finding)
-      → StandsIn (names_part (q.name ∷ cells_told gs)) (why.owed_line s q t (finding.Owed q t ∷ gs))
-  in_owed q t gs = by (nat_eq (length fs) 1) refl where
+      → Begins (owed_words gs ++ spaced_names (q.name ∷ cells_told gs)) (why.owed_line s q t (finding.Owed q t ∷ gs))
+  in_owed q t [] = in_debt q t
+  in_owed q t (g ∷ gs) = by (nat_eq (length fs) 1) refl where
     fs : List Finding
-    fs = finding.Owed q t ∷ gs
+    fs = finding.Owed q t ∷ g ∷ gs
 
-    p : List ℕ
-    p = names_part (q.name ∷ cells_told gs)
+    names : List ℕ
+    names = why.first_names (cells_told fs)
 
-    alone : (gs : List Finding) → length (finding.Owed q t ∷ gs) ≡ 1
-        → StandsIn (names_part (q.name ∷ cells_told gs)) (why.debt_line s q t)
-    alone [] e = in_debt q t
-    alone (g ∷ gs) e = absurd (omega (arith, e))
+    made : List ℕ
+    made = made_text s q.maker
+
+    unset : List ℕ
+    unset = why.never_set s t fs
+
+    rest : List ℕ
+    rest = codes "were never set" ++ why.owners_text s t (tasks_told fs) ++ line_feed
 
     by : (b : Bool) → nat_eq (length fs) 1 ≡ b
-        → StandsIn p (cond b (why.debt_line s q t) (why.debts_line s q t fs))
-    by true e = alone gs (eqb-true (length fs) 1 e)
+        → Begins (codes "owed: the promises " ++ spaced_names (cells_told fs))
+        (cond b (why.debt_line s q t) (why.debts_line s q t fs))
+    by true e = absurd (omega (arith, eqb-true (length fs) 1 e))
     by false e =
-        before_more p (why.debts_text s q fs) (why.never_set s t fs)
-        (before_more p (codes "owed: the promises " ++ why.first_names (cells_told fs)) (made_text s q.maker)
-        (behind_more p (codes "owed: the promises ") (why.first_names (cells_told fs)) (in_names (cells_told fs))))
+        further (codes "owed: the promises ") (spaced_names (cells_told fs)) (names ++ made ++ unset)
+        (subst (λ z. Begins (z ++ codes " ") (names ++ made ++ unset)) (same_names (cells_told fs))
+        (named_made names q.maker rest))
 
   module _ (ws : List Wait) (gs : List Finding) (same : Same (finding.Cycle ws) gs) where
     abbrev own : List Finding
@@ -260,10 +303,14 @@ module _ (s : Told) where
 
     -- the names of the members with this number
     abbrev names_at : ℕ → List ℕ
-    names_at n = names_part (map (member_name n) own)
+    names_at n = spaced_names (map (member_name n) own)
+
+    -- with what stands in front of them, and where these members wait
+    abbrev parts_at : ℕ → List (List ℕ)
+    parts_at n = (codes "  " ++ names_at n) ∷ wait_part s (slice_get ws n) ∷ []
 
     -- the members with this number
-    in_member : (n : ℕ) → n < length ws → StandsIn (names_at n) (why.member s own n)
+    in_member : (n : ℕ) → n < length ws → StandInOrder (parts_at n) (why.member s own n)
     in_member n less =
         let here = at_place ws n less in
         let w = here.0 in
@@ -272,95 +319,99 @@ module _ (s : Told) where
         let names : wait_names (w ∷ them) ≡ map (member_name n) own
         = ap (λ z. w.task.name ∷ z) (cycle_names ws n less gs same)
         ∙ ap (λ o. unwrap_or (option_map (λ v. v.task.name) o) [] ∷ map (member_name n) gs) (sym here.1) in
-        let part : StandsIn (names_at n) line = subst (λ z. StandsIn (names_part z) line) names (in_wait w them) in
-        subst (λ z. StandsIn (names_at n) (why.member_lines s z)) (sym (ap (λ o. option_to_list o ++ them) here.1))
-        (before_more (names_at n) (codes "  " ++ line) (why.source_line s w.task)
-        (behind_more (names_at n) (codes "  ") line part))
+        let part : BeginsSo (names_at n) (wait_part s (slice_get ws n) ∷ []) line
+        = subst (λ o. BeginsSo (names_at n) (wait_part s o ∷ []) line) (sym here.1)
+        (subst (λ z. BeginsSo (spaced_names z) (wait_part s (Some w) ∷ []) line) names (in_wait w them)) in
+        let rest = wait_part s (slice_get ws n) ∷ [] in
+        subst (λ z. StandInOrder (parts_at n) (why.member_lines s z)) (sym (ap (λ o. option_to_list o ++ them) here.1))
+        (so_in_order (codes "  " ++ names_at n) rest (codes "  " ++ line ++ why.source_line s w.task)
+        (so_more (codes "  " ++ names_at n) rest (codes "  " ++ line) (why.source_line s w.task)
+        (so_further (codes "  ") (names_at n) rest line part)))
 
     -- so many members
     in_members : (k n : ℕ) → n + k ≤ length ws
-        → StandInOrder (map names_at (range_with_len n k)) (why.members_from s own n k)
+        → StandInOrder (flat_map parts_at (range_with_len n k)) (why.members_from s own n k)
     in_members zero n within = tt
     in_members (suc k) n within =
-        one_first (names_at n) (map names_at (range_with_len (n + 1) k)) (why.member s own n)
+        all_both (parts_at n) (flat_map parts_at (range_with_len (n + 1) k)) (why.member s own n)
         (why.members_from s own (n + 1) k)
         (in_member n (omega (arith, within))) (in_members k (n + 1) (omega (arith, within)))
 
     -- the members at the two ends
     in_ends : 20 < length ws
-        → StandInOrder (map names_at (range_with_len 0 10 ++ range_with_len (length ws - 10) 10))
+        → StandInOrder (flat_map parts_at (range_with_len 0 10 ++ range_with_len (length ws - 10) 10))
         (why.ends s own (length ws))
     in_ends long =
         let from : ℕ = length ws - 10 in
         let first = why.members_from s own 0 10 in
         let left = why.left_out (length ws - 20) in
         let last = why.members_from s own from 10 in
-        let at_first : List (List ℕ) = map names_at (range_with_len 0 10) in
-        let at_last : List (List ℕ) = map names_at (range_with_len from 10) in
+        let at_first : List (List ℕ) = flat_map parts_at (range_with_len 0 10) in
+        let at_last : List (List ℕ) = flat_map parts_at (range_with_len from 10) in
         subst (λ z. StandInOrder z (first ++ left ++ last))
-        (sym (map_both names_at (range_with_len 0 10) (range_with_len from 10)))
+        (sym (flat_map-append parts_at (range_with_len 0 10) (range_with_len from 10)))
         (all_both at_first at_last (first ++ left) last
         (all_before at_first first left (in_members 10 0 (omega (arith, long))))
         (in_members 10 from (omega (arith, long))))
 
     -- those that are told
     in_told : (a t : Bool) → nat_le (length ws) 20 ≡ t
-        → StandInOrder (map names_at (cond (a || t) (range_with_len 0 (length ws))
+        → StandInOrder (flat_map parts_at (cond (a || t) (range_with_len 0 (length ws))
         (range_with_len 0 10 ++ range_with_len (length ws - 10) 10)))
         (cond (a || t) (why.members_from s own 0 (length ws)) (why.ends s own (length ws)))
     in_told true t e = in_members (length ws) 0 (omega arith)
     in_told false true e = in_members (length ws) 0 (omega arith)
     in_told false false e = let long : 20 < length ws = grind (arith, nat_tests, e) in in_ends long
 
-  -- one part, with these names
-  one_part : (x : Name) (xs ys : List Name) (text : List ℕ) → xs ≡ ys → StandsIn (names_part (x ∷ xs)) text
-      → StandInOrder (names_part (x ∷ ys) ∷ []) text
-  one_part x xs ys text e i = (subst (λ z. StandsIn (names_part (x ∷ z)) text) e i, tt)
+  -- a line that begins with these words and names
+  one_line : (words : List ℕ) (x : Name) (xs ys : List Name) (ps : List (List ℕ)) (text : List ℕ) → xs ≡ ys
+      → BeginsSo (words ++ spaced_names (x ∷ xs)) ps text → BeginsSo (words ++ spaced_names (x ∷ ys)) ps text
+  one_line words x xs ys ps text e i = subst (λ z. BeginsSo (words ++ spaced_names (x ∷ z)) ps text) e i
 
   -- what is told of findings that are told together
   pub have_names : HaveNames s
   have_names all (finding.Cycle ws) gs same =
       let fs = finding.Cycle ws ∷ gs in
-      let n : ℕ = length ws in
-      let numbers = told_numbers all n in
-      let count = count_parts (length fs) in
-      let first = codes "deadlock: " ++ why.times (length fs) in
-      let head = first ++ why.tasks_text n ++ why.each_other n in
-      all_both count (map (names_at ws gs same) numbers) head (why.members s all fs n)
-      (all_before count (first ++ why.tasks_text n) (why.each_other n)
-      (all_before count first (why.tasks_text n) (in_count (length fs))))
-      (in_told ws gs same all (nat_le (length ws) 20) refl)
+      let members = why.members s all fs (length ws) in (
+        members,
+        cycles_begin (length fs) (length ws) members,
+        in_told ws gs same all (nat_le (length ws) 20) refl,
+      )
   have_names all (finding.Behind w) gs same =
       let ws = waits_at 0 gs in
-      one_part w.task.name (wait_names ws) (map finding_name gs) (why.members_text s all (finding.Behind w ∷ gs))
-      (behind_names w gs same)
-      (behind_more (names_part (wait_names (w ∷ ws))) (codes "behind a deadlock: ") (why.wait_text s w (w ∷ ws))
-      (in_wait w ws))
+      let at = stop_part s w.task (codes " for ") ∷ [] in
+      one_line (codes "behind a deadlock: ") w.task.name (wait_names ws) (map finding_name gs) at
+      (why.members_text s all (finding.Behind w ∷ gs)) (behind_names w gs same)
+      (so_further (codes "behind a deadlock: ") (spaced_names (wait_names (w ∷ ws))) at
+      (why.wait_text s w (w ∷ ws)) (in_wait w ws))
   have_names all (finding.Failed t c m) gs same =
       let fs = finding.Failed t c m ∷ gs in
-      let p = names_part (task_names (tasks_told fs)) in
+      let p = codes "failed: " ++ spaced_names (task_names (tasks_told fs)) in
+      let at = stop_part s t (codes ": ") ∷ [] in
       let failed = why.failed_text s t fs in
       let cause = why.why_failed s t c fs in
       let about = why.about_text s t m fs in
-      one_part t.name (task_names (tasks_told gs)) (map finding_name gs) (why.members_text s all fs)
-      (failed_names t c m gs same)
-      (before_more p (failed ++ cause ++ about ++ line_feed) (why.source_line s t)
-      (before_more p (failed ++ cause ++ about) line_feed
-      (before_more p (failed ++ cause) about
-      (before_more p failed cause (in_failed t fs (tasks_told gs) refl)))))
+      one_line (codes "failed: ") t.name (task_names (tasks_told gs)) (map finding_name gs) at
+      (why.members_text s all fs) (failed_names t c m gs same)
+      (so_more p at (failed ++ cause ++ about ++ line_feed) (why.source_line s t)
+      (so_more p at (failed ++ cause ++ about) line_feed
+      (so_more p at (failed ++ cause) about
+      (so_more p at failed cause (in_failed t fs (tasks_told gs) refl)))))
   have_names all (finding.Owed q t) gs same =
-      one_part q.name (cells_told gs) (map finding_name gs) (why.members_text s all (finding.Owed q t ∷ gs))
-      (owed_names q t gs same) (in_owed q t gs)
+      let i = in_owed q t gs in
+      one_line (owed_words gs) q.name (cells_told gs) (map finding_name gs) []
+      (why.members_text s all (finding.Owed q t ∷ gs)) (owed_names q t gs same) (i.0, i.1, tt)
   have_names all (finding.Echo t q o) gs same =
       let fs = finding.Echo t q o ∷ gs in
-      let p = names_part (task_names (tasks_told fs)) in
+      let p = codes "failed: " ++ spaced_names (task_names (tasks_told fs)) in
+      let at = stop_part s t (codes ": ") ∷ [] in
       let failed = why.failed_text s t fs in
       let broken = why.cause_of (cause.Broken q.name) fs in
       let made = why.all_made s q.maker fs in
       let origins = why.origins_text s o fs in
-      one_part t.name (task_names (tasks_told gs)) (map finding_name gs) (why.members_text s all fs)
-      (echo_names t q o gs same)
-      (before_more p (failed ++ broken ++ made ++ origins) line_feed
-      (before_more p (failed ++ broken ++ made) origins
-      (before_more p (failed ++ broken) made
-      (before_more p failed broken (in_failed t fs (tasks_told gs) refl)))))
+      one_line (codes "failed: ") t.name (task_names (tasks_told gs)) (map finding_name gs) at
+      (why.members_text s all fs) (echo_names t q o gs same)
+      (so_more p at (failed ++ broken ++ made ++ origins) line_feed
+      (so_more p at (failed ++ broken ++ made) origins
+      (so_more p at (failed ++ broken) made
+      (so_more p at failed broken (in_failed t fs (tasks_told gs) refl)))))

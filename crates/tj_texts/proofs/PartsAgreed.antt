@@ -12,6 +12,7 @@ use Rattle.tj_body.proofs.Counts.{same_is}
 use Rattle.tj_mean.specs.ReportTexts.{cause_text}
 use Rattle.tj_trace.specs.declared.line.Maker.{Maker}
 use Rattle.tj_findings.specs.Groups.{cell_named, cell_told, maker_told, origin_told, same_maker, same_name}
+use Rattle.tj_findings.specs.Groups.{same_stand}
 use Rattle.tj_findings.specs.LetNames.{let_text, named_in}
 use Rattle.tj_findings.specs.PartTexts.{cause_word, made_text, owner_text, where_agreed}
 use Rattle.tj_findings.specs.ReasonTexts.{reason_text}
@@ -22,10 +23,11 @@ use Rattle.tj_findings.specs.declared.finding.Wait.{Wait}
 use Rattle.tj_findings.specs.declared.finding.Went.{Went}
 use Rattle.tj_findings.specs.declared.finding.Went.TheVariants as went
 use Rattle.tj_texts.specs.AgreedParts.{CausesAgree, ForksAgree, HasCell, IsAgreed, MakersAgree, OriginsAgree, PartsAgree}
-use Rattle.tj_texts.specs.AgreedParts.{ReasonsAgree, WaitsAgree, WentsAgree, cell_of}
+use Rattle.tj_texts.specs.AgreedParts.{HasOwners, OwnersAgree, ReasonsAgree, WaitsAgree, WentsAgree, cell_of}
+use Rattle.tj_texts.specs.AgreedParts.{owned_each, owned_them}
 use Rattle.tj_texts.specs.WentTexts.{alike_went, each_text, went_text}
 use Rattle.tj_texts.specs.WhyTexts.{each_went, fork_text, origin_text}
-use Rattle.tj_texts.proofs.GroupsSame.{of_both, same_pair}
+use Rattle.tj_texts.proofs.GroupsSame.{of_both, same_pair, stand_alike}
 
 module _ {A : Type 0} where
   -- each passes a test that all pass
@@ -239,7 +241,27 @@ module _ (s : Told) where
       (option_map (λ t. t.name) o) (origin_text s o) []
       (λ g e. names_same (option_map (λ t. t.name) o) (origin_told g) e)
 
+  owners_agree : OwnersAgree s
+  owners_agree t ts = by (list_all (λ u. same t.name u.name) ts) (list_all (same_stand t) ts) refl refl where
+    told : Bool → Bool → List ℕ
+    told a b = cond a (owned_them s t) (where_agreed b (owned_each s t))
+
+    by : (a b : Bool) → list_all (λ (u : ToldTask). same t.name u.name) ts ≡ a → list_all (same_stand t) ts ≡ b
+        → HasOwners s t ts (told a b)
+    by true b named stood =
+        inr (inl (refl, λ u i. sym (same_is t.name u.name (all_pass (λ u. same t.name u.name) ts named u i))))
+    by false true named stood = inr (inr (refl, λ u i. stand_alike t u (all_pass (same_stand t) ts stood u i)))
+    by false false named stood = inl refl
+
   -- the law
   pub parts_agree : PartsAgree s
-  parts_agree =
-      (forks_agree, waits_agree, causes_agree, makers_agree, reasons_agree, wents_agree, origins_agree)
+  parts_agree = (
+    forks_agree,
+    waits_agree,
+    causes_agree,
+    makers_agree,
+    reasons_agree,
+    wents_agree,
+    origins_agree,
+    owners_agree,
+  )

@@ -4,3 +4,4 @@ pub mod WentTexts
 pub mod LineLaws
 pub mod GroupLaws
 pub mod AgreedParts
+pub mod AgreedLines

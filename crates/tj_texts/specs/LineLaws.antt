@@ -10,8 +10,8 @@ use Rattle.tj_lex.specs.declared.place.Place.{Place}
 use Rattle.tj_faults.specs.Carets.{line_in}
 use Rattle.tj_findings.specs.Forests.{Forest}
 use Rattle.tj_findings.specs.Groups.{Group, groups, leaf_groups}
-use Rattle.tj_findings.specs.LinesTold.{AreLines, HasPlainNames, IsPlain, StandsIn, with_levels}
-use Rattle.tj_findings.specs.Scenes.{Told, told_spot}
+use Rattle.tj_findings.specs.LinesTold.{AreLines, HasPlainNames, IsPlain, StandInOrder, with_levels}
+use Rattle.tj_findings.specs.Scenes.{Told, stop_text, told_spot}
 use Rattle.tj_findings.specs.declared.finding.Finding.{Finding}
 use Rattle.tj_findings.specs.declared.finding.Finding.TheVariants as finding
 use Rattle.tj_findings.specs.declared.finding.ToldTask.{ToldTask}
@@ -119,29 +119,58 @@ names_part (x ∷ y ∷ []) = name_text x ++ codes " and " ++ name_text y
 names_part (x ∷ y ∷ z ∷ more) =
     name_text x ++ codes ", " ++ name_text y ++ codes " and " ++ decimal (suc (length more)) ++ codes " more"
 
--- the part of a line that counts cycles, if there are several
-abbrev pub count_parts : ℕ → List (List ℕ)
-count_parts n = cond (nat_eq n 1) [] ((codes "deadlock: " ++ decimal n ++ codes " times ") ∷ [])
+-- several names as a line has them, and the blank behind them
+abbrev pub spaced_names : List Name → List ℕ
+spaced_names xs = names_part xs ++ codes " "
 
--- what the lines have of findings that say the same: the names by which they are told, of cycles first how many there
--- are and then the names of their members with each number that is told
-abbrev pub parts_told : Bool → Finding → List Finding → List (List ℕ)
-parts_told all (finding.Cycle ws) gs = count_parts (suc (length gs))
-    ++ map (λ n. names_part (map (member_name n) (finding.Cycle ws ∷ gs))) (told_numbers all (length ws))
-parts_told all (finding.Behind w) gs = names_part (w.task.name ∷ map finding_name gs) ∷ []
-parts_told all (finding.Failed t c m) gs = names_part (t.name ∷ map finding_name gs) ∷ []
-parts_told all (finding.Owed q t) gs = names_part (q.name ∷ map finding_name gs) ∷ []
-parts_told all (finding.Echo t q o) gs = names_part (t.name ∷ map finding_name gs) ∷ []
+-- the first line of cycles: how many there are, if there are several, and of how many tasks each is
+abbrev pub cycles_head : ℕ → ℕ → List ℕ
+cycles_head k n = codes "deadlock: " ++ cond (nat_eq k 1) [] (decimal k ++ codes " times ")
+    ++ cond (nat_eq n 1) (codes "1 task waits for itself\n") (decimal n ++ codes " tasks wait for each other\n")
 
--- these stand in the text one behind the other, in this order
-abbrev pub StandInOrder : List (List ℕ) → List ℕ → Type 0
-StandInOrder [] text = Unit {0}
-StandInOrder (p ∷ ps) text = (i : StandsIn p text) × StandInOrder ps i.behind
+-- the words in front of a promise that was owed, if there are no others behind it, and else in front of several
+abbrev pub owed_words : List Finding → List ℕ
+owed_words [] = codes "owed: the promise "
+owed_words (g ∷ gs) = codes "owed: the promises "
 
--- what is told of findings that say the same, as those of a group do, has their names and their count
+-- how the lines begin of findings that say the same: with words for their kind, and the names by which they are told;
+-- of cycles, with how many there are
+abbrev pub head_told : Finding → List Finding → List ℕ
+head_told (finding.Cycle ws) gs = cycles_head (suc (length gs)) (length ws)
+head_told (finding.Behind w) gs = codes "behind a deadlock: " ++ spaced_names (w.task.name ∷ map finding_name gs)
+head_told (finding.Failed t c m) gs = codes "failed: " ++ spaced_names (t.name ∷ map finding_name gs)
+head_told (finding.Owed q t) gs = owed_words gs ++ spaced_names (q.name ∷ map finding_name gs)
+head_told (finding.Echo t q o) gs = codes "failed: " ++ spaced_names (t.name ∷ map finding_name gs)
+
+-- that tasks stopped where this one did, and the words behind it
+abbrev pub stop_part : Told → ToldTask → List ℕ → List ℕ
+stop_part s t words = codes " at " ++ stop_text s t ++ words
+
+-- the same of the task of a wait
+abbrev pub wait_part : Told → Option Wait → List ℕ
+wait_part s None = []
+wait_part s (Some w) = stop_part s w.task (codes " for ")
+
+-- what stands behind that: where the tasks stopped, but of promises that were owed; of cycles, for each number that is
+-- told, the names of their members with this number, and where these wait
+abbrev pub parts_told : Told → Bool → Finding → List Finding → List (List ℕ)
+parts_told s all (finding.Cycle ws) gs = flat_map (λ n. (codes "  "
+    ++ spaced_names (map (member_name n) (finding.Cycle ws ∷ gs))) ∷ wait_part s (slice_get ws n) ∷ [])
+    (told_numbers all (length ws))
+parts_told s all (finding.Behind w) gs = stop_part s w.task (codes " for ") ∷ []
+parts_told s all (finding.Failed t c m) gs = stop_part s t (codes ": ") ∷ []
+parts_told s all (finding.Owed q t) gs = []
+parts_told s all (finding.Echo t q o) gs = stop_part s t (codes ": ") ∷ []
+
+-- the text begins so, and behind that these parts stand in it, in this order
+abbrev pub BeginsSo : List ℕ → List (List ℕ) → List ℕ → Type 0
+BeginsSo head parts text = (rest : List ℕ) × (text ≡ head ++ rest) × StandInOrder parts rest
+
+-- what is told of findings that say the same, as those of a group do, has a word for their kind, their names and their
+-- count
 abbrev pub HaveNames : Told → Type 0
 HaveNames s = (all : Bool) (g : Finding) (gs : List Finding) → AllSaySame (g ∷ gs)
-    → StandInOrder (parts_told all g gs) (members_text s all (g ∷ gs))
+    → BeginsSo (head_told g gs) (parts_told s all g gs) (members_text s all (g ∷ gs))
 
 -- a text tells the findings of a forest, those that are told together by lines of their own
 abbrev pub TextsTellEach : Type 0

@@ -10,10 +10,14 @@ pub fn texts_tell_each_finding()
     // line has a line feed, these are one line; of failures two more, if a source line is told, and the task
     // stopped at a position; of cycles one more for each member that is told, with two more as of failures,
     // and one where members are left out. Unless all is told, of more than 20 members the first ten and the
-    // last ten are. The lines of findings that say the same, as those of a group do, have the names of the
-    // tasks, of the promises that were owed, or, number by number, of the members that are told of cycles:
-    // of two findings both names, and of more those of the first two and how many more there are. Of
-    // several cycles the line that counts tasks has their number first.
+    // last ten are. What is told of findings that say the same, as those of a group do, begins with a word
+    // for their kind: `deadlock`, `behind a deadlock`, `failed`, of echoes as well, or `owed`. Behind it the
+    // line of cycles tells how many there are, if there are several, and of how many tasks each is, and
+    // nothing else. Another line goes on with the names of the tasks, or of the promises that were owed: of
+    // two findings both names, and of more those of the first two and how many more there are. So do the
+    // lines of the members that are told of cycles, which stand behind the first line, number by number.
+    // Behind names a blank stands. Behind those of tasks, in the lines of members as well, stands the position
+    // at which the first of them stopped; the others stopped at the same statement.
     ensures { TextsTellEach }
 {}
 
