@@ -22,7 +22,7 @@ use channels::two_receivers;
 use explained::explained_joins;
 use kept::{kept_broken, kept_circle};
 use knots::told_knot;
-use native::{fibonacci, in_a_knot, sum};
+use native::{fibonacci, in_a_knot, large_table, sum};
 use polled::polled;
 use rows::handed_to_a_child;
 use scripts::{on_a_cycle, planned_and_run, position_of_a_fault, which_owe};
@@ -38,7 +38,7 @@ use values::values_by_name;
 use watched::{watched, watched_plan};
 
 /// What all of them give, where memory lasts.
-fn texts<R: Wait + Threads + RandomSource + Sync + AllocGlobal>(rt: &R) -> Option<[Vec<u8>; 20]> {
+fn texts<R: Wait + Threads + RandomSource + Sync + AllocGlobal>(rt: &R) -> Option<[Vec<u8>; 22]> {
     Some([
         which_owe(rt)?,
         on_a_cycle(rt)?,
@@ -48,6 +48,8 @@ fn texts<R: Wait + Threads + RandomSource + Sync + AllocGlobal>(rt: &R) -> Optio
         two_receivers(rt)?,
         in_a_knot(rt)?,
         fibonacci(rt)?,
+        large_table(rt, 1)?,
+        large_table(rt, 4)?,
         sum(rt)?,
         told_knot(rt)?,
         kept_circle(rt)?,
