@@ -58,6 +58,10 @@ TOLD = (
     ("promises of the first task before the second task", "--cells 4",
      "task main() { fork a(); fork a(); }\ntask a() { let i = 0; while i < 3 { let p = new; i = i + 1; } }\n",
      "full: more than 4 cells\n  3 of the first 5 made at 2:45\n"),
+    ("cells of a round, of which the root has none where it waits", "--cells 3",
+     "task main() { let t = fork a(); join t; let p = new; let q = new; let r = new; }\n"
+     "task a() { let i = 0; while i < 2 { let p = new; set p = 1; i = i + 1; } }\n",
+     "full: more than 3 cells\n  2 of the first 4 made at 2:45\n"),
     ("tasks each of which forks without end", "--cells 4096 --steps 9000",
      "task main() { while 1 { fork f(); } }\ntask f() { while 1 { fork f(); } }\n",
      "full: more than 4096 cells\n  4096 of the first 4097 made at 1:25\n"),
