@@ -21,7 +21,7 @@ use Rattle.tj_events.proofs.Graph.CycleLists.{returns_are_cycles}
 use Rattle.tj_words.specs.declared.phase.Phase.{Phase}
 use Rattle.tj_words.specs.declared.phase.Phase.TheVariants as phase
 use Rattle.tj_words.specs.declared.phase.Walk.TheVariants as walk
-use Rattle.tj_laws.specs.PhaseChanges.{IsForGood, IsStoredOver}
+use Rattle.tj_runs.specs.PhaseChanges.{IsForGood, IsStoredOver}
 use Rattle.tj_laws.proofs.EventRuns.{cell, waits_alone, waits_cycle}
 
 -- The early raise of OTHERS forgotten: a running task publishes any wait at once. Then a cycle stands where OTHERS is

@@ -21,7 +21,7 @@ use Rattle.tj_words.proofs.Stores.TableWords as table_word
 use Rattle.tj_words.specs.CallLaws.CallRuns.{CallRunsAreRuns, asked_by}
 use Rattle.tj_words.specs.CallLaws.LoggedRuns.{states_of}
 use Rattle.tj_words.specs.CallLaws.RestedRuns.{Ruled}
-use Rattle.tj_words.specs.CallLaws.StepCalls.{StepCall, place_of, told_by}
+use Rattle.tj_words.specs.CallLaws.StepCalls.{StepCall, told_by}
 use Rattle.tj_words.specs.CallLaws.StepCalls as call
 use Rattle.tj_words.specs.CallLaws.StepLogs.{did_of, entry_of, table_terms}
 use Rattle.tj_words.specs.Calls.LiveViews.{MayEnd, put_with}
@@ -34,9 +34,10 @@ use Rattle.tj_words.specs.declared.table.Key.{Key}
 use Rattle.tj_words.specs.declared.view.View.{View}
 use Rattle.tj_runs.specs.LastingWords.{CountNeverFalls}
 use Rattle.tj_runs.specs.OwnRuns.{AreTheLast, OwnRunsStand}
-use Rattle.tj_laws.proofs.EndedRecords.{ended_records_lie}
-use Rattle.tj_laws.proofs.StepWords.{placed, word_of}
-use Rattle.tj_laws.specs.EndedRecords.{EndedStoresLie, LiesEnded}
+use Rattle.tj_runs.proofs.HomeRecords.{ended_records_lie}
+use Rattle.tj_runs.proofs.StepWords.{placed, word_of}
+use Rattle.tj_runs.specs.HomeRecords.{LiesEnded}
+use Rattle.tj_laws.specs.EndedStores.{EndedStoresLie}
 
 -- what stands at a moment of a past is one of its states
 in_states : {S V : Type 0} (z : State S V) (came : Past S V) (now : State S V) (past : Past S V)
@@ -78,9 +79,10 @@ ended_stores_lie B runs counts own program key s run x y came id t n slots act e
   may.record_of,
   (made.view, made.view_after, made.at, there, noted),
   subst (λ k. LiesEnded (contents_of s) k may.record_of) may.puts.cell
-      (ended_records_lie B runs counts own program key s run moment.0 moment.1 moment.2 id made.view_after
-      (subst (λ (z : State (Option (Rec B)) (View B)). get_elem? z.views id ≡ some made.view_after) (sym moment.3) there)
-      may.record_of (subst (IsIn may.record_of) (sym noted) (inl refl)) (may.finish, may.finished)),
+      (ended_records_lie B runs counts own program made.view_after may.record_of
+      (subst (IsIn may.record_of) (sym noted) (inl refl)) (may.finish, may.finished) key s run moment.0 moment.1
+      moment.2 id (subst (λ (z : State (Option (Rec B)) (View B)). get_elem? z.views id ≡ some made.view_after)
+      (sym moment.3) there)),
 )
   where
     e : Entry

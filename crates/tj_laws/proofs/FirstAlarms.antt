@@ -53,7 +53,7 @@ use Rattle.tj_words.proofs.Seating.Opening.{opening_meets}
 use Rattle.tj_words.proofs.Stores.OneActs.{same_act}
 use Rattle.tj_words.proofs.Stores.SeatLists.{word_else, word_here}
 use Rattle.tj_words.proofs.Waiters.OthersSteps.{raise_allowed}
-use Rattle.tj_laws.specs.Moments.{contents_at}
+use Rattle.tj_runs.specs.Moments.{contents_at}
 use Rattle.tj_laws.specs.NewTables.{RootsAlarm}
 use Rattle.tj_laws.specs.TableWaits.{HasAlarmed}
 use Rattle.tj_laws.proofs.FirstClaims.{after, allowed, claim, claimed, first, found_is, left_is, seat}

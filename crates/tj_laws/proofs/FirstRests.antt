@@ -49,7 +49,7 @@ use Rattle.tj_words.proofs.Seating.FirstWords.{first_words_say}
 use Rattle.tj_words.proofs.Seating.Opening.{opening_meets}
 use Rattle.tj_words.proofs.Stores.SeatLists.{word_else, word_here}
 use Rattle.tj_words.proofs.Waiters.LiveCalls.{down_allowed}
-use Rattle.tj_laws.specs.Moments.{contents_at}
+use Rattle.tj_runs.specs.Moments.{contents_at}
 use Rattle.tj_laws.specs.NewTables.{JoinersRest}
 use Rattle.tj_laws.specs.TableWaits.{HasAlarmed}
 use Rattle.tj_laws.proofs.FirstAlarms.{GoesTo, e2, e3, e4, e5, e6, goes, k, kept6, m6, r, returned, root_alarms}

@@ -49,7 +49,7 @@ use Rattle.tj_words.proofs.Seating.FirstWords.{first_words_say}
 use Rattle.tj_words.proofs.Seating.Opening.{opening_meets}
 use Rattle.tj_words.proofs.Stores.EntryStores.{bits_allowed, tag_allowed}
 use Rattle.tj_words.proofs.Stores.SeatLists.{word_else, word_here}
-use Rattle.tj_laws.specs.Moments.{contents_at}
+use Rattle.tj_runs.specs.Moments.{contents_at}
 use Rattle.tj_laws.specs.NewTables.{EndersAreTagged}
 use Rattle.tj_laws.proofs.FirstAlarms.{GoesTo, at1, first_acts, goes, k, m1, r, root_does, u1, ws}
 use Rattle.tj_laws.proofs.FirstClaims.{claim, first}

@@ -42,9 +42,9 @@ use Rattle.tj_words.proofs.Lemmas.{each_set, hand_found}
 use Rattle.tj_runs.proofs.CallChanges.{ShowsSame, head_same, live_same, once_same, push_same, put_same}
 use Rattle.tj_runs.proofs.CallChanges.{owner_same, phase_same, shut_same}
 use Rattle.tj_words.proofs.Stores.SeatLists.{each_only, each_snoc, map_back}
-use Rattle.tj_laws.specs.Moments.{contents_at}
+use Rattle.tj_runs.specs.Moments.{contents_at}
 use Rattle.tj_laws.specs.RestedTables.{NoneInHandAtRest}
-use Rattle.tj_laws.proofs.PhaseRows.{GoesByRow, held_phase, step_rows}
+use Rattle.tj_runs.proofs.PhaseRows.{GoesByRow, held_phase, step_rows}
 use Rattle.tj_laws.proofs.RestedWords.{dull}
 
 -- nothing goes to Unborn

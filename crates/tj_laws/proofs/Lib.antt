@@ -1,12 +1,9 @@
 pub mod ClosedOnce
 pub mod CoreCycles
 pub mod TableCycles
-pub mod StepWords
-pub mod PhaseRows
 pub mod RestedWords
 pub mod MeantWords
 pub mod ReadyCounts
-pub mod TaskHolders
 pub mod EventRuns
 pub mod ChangedDefinitions
 pub mod FirstMoments
@@ -30,6 +27,5 @@ pub mod LoggedPhases
 pub mod FirstPromises
 pub mod FirstWakes
 pub mod NotedPuts
-pub mod PutRecords
-pub mod EndedRecords
 pub mod EndedStores
+pub mod HeldTasks

@@ -33,10 +33,10 @@ use Rattle.tj_words.specs.declared.phase.Phase.TheVariants as phase
 use Rattle.tj_record.specs.declared.record.Rec.{Rec}
 use Rattle.tj_words.specs.declared.table.Key.{Key}
 use Rattle.tj_words.specs.declared.view.View.{View}
-use Rattle.tj_laws.proofs.PhaseRows.{phases_for_good}
-use Rattle.tj_laws.proofs.StepWords.{placed, word_of}
+use Rattle.tj_runs.proofs.PhaseRows.{phases_for_good}
+use Rattle.tj_runs.proofs.StepWords.{placed, word_of}
 use Rattle.tj_laws.specs.LoggedPhases.{LoggedPhasesStand, RecordsAreAsPut}
-use Rattle.tj_laws.specs.PhaseChanges.{IsForGood}
+use Rattle.tj_runs.specs.PhaseChanges.{IsForGood}
 
 -- what stands in a log stands in it in the order of the steps, too
 in_ordered : {A : Type 0} (x : A) (l : List A) → IsIn x l → IsIn x (in_order l)

@@ -23,7 +23,7 @@ use Rattle.tj_words.proofs.Lemmas.{begun_there, none_some}
 use Rattle.tj_words.proofs.Meaning.RestingStates.{map_back, no_lot_no_task, two_parts}
 use Rattle.tj_words.proofs.Prelude.{home_of, phase_sort, sort_shown}
 use Rattle.tj_laws.specs.Holders.{IsUnderWay, LoneSeatsHold}
-use Rattle.tj_laws.specs.Moments.{contents_at}
+use Rattle.tj_runs.specs.Moments.{contents_at}
 
 module _ {B : Type 0} (program : Bool → B → Program B) (key : Key B) (u : Ruled program key) (id t : ℕ) (v : View B)
     (at : get_elem? u.now.views id ≡ some v) (lot : v.lot ≡ all_lots) where

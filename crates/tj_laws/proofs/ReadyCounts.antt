@@ -9,7 +9,7 @@ use Rattle.tj_words.specs.declared.table.Key.{Key}
 use Rattle.tj_words.specs.CallLaws.CallRuns.{AreAskedMoments}
 use Rattle.tj_words.specs.CallLaws.RestedRuns.{Ruled, last_moment}
 use Rattle.tj_laws.specs.Holders.{ReadiedOncePerClaim, claims, is_ready, is_running, one_if, phase_then, readied}
-use Rattle.tj_laws.proofs.PhaseRows.{GoesByRow, step_rows}
+use Rattle.tj_runs.proofs.PhaseRows.{GoesByRow, step_rows}
 
 -- a step that goes by a row makes ready as often as it claims, but for what is ready before and after
 abbrev IsEven : Phase → Phase → Type 0

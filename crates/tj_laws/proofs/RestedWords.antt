@@ -23,7 +23,7 @@ use Rattle.tj_words.specs.declared.view.View.{View}
 use Rattle.tj_words.specs.Law.{Law}
 use Rattle.tj_words.specs.CallLaws.CallRuns.{IsAskedCall, IsAskedStep, acts_by, asked_by, phase_act}
 use Rattle.tj_runs.specs.LastingWords.{CellsAreForGood}
-use Rattle.tj_words.specs.CallLaws.RestedRuns.{IsTableStep, Ruled, last_moment}
+use Rattle.tj_words.specs.CallLaws.RestedRuns.{Ruled, last_moment}
 use Rattle.tj_words.specs.CallLaws.StepCalls.{StepCall, place_of, told_by}
 use Rattle.tj_words.specs.CallLaws.StepCalls as call
 use Rattle.tj_words.specs.Calls.OwnerViews.{MayPutOwner}
@@ -44,15 +44,16 @@ use Rattle.tj_words.specs.Words.Owners.{owner_in}
 use Rattle.tj_words.specs.Words.Phases.{phase_in}
 use Rattle.tj_words.proofs.Prelude.{at_map, set_here}
 use Rattle.tj_words.proofs.Lemmas.{begun_there, hand_found, inside}
+use Rattle.tj_runs.proofs.AlikeSeats.{plain_step}
 use Rattle.tj_runs.proofs.CallStores.{step_stays}
 use Rattle.tj_words.proofs.SeatLoads.KnowLoads.{hand_not}
 use Rattle.tj_words.proofs.Stores.TableWords.{TableWord, index, is_word}
 use Rattle.tj_words.proofs.Stores.TableWords as table_word
 use Rattle.tj_words.proofs.Waiters.LiveSteps.{held_in_phase, lively_live}
-use Rattle.tj_laws.specs.Moments.{contents_at}
+use Rattle.tj_runs.specs.Moments.{contents_at}
 use Rattle.tj_laws.specs.RestedTables.{HasLiveTask, HasReady, HasToken, IsStill, LiveIsSomebodys, RestedTablesStay}
 use Rattle.tj_laws.specs.RestedTables.{SomebodyIsLive, StopStays, StopsStay}
-use Rattle.tj_laws.proofs.StepWords.{IsLeftBy, word_of, word_stays}
+use Rattle.tj_runs.proofs.StepWords.{IsLeftBy, word_of, word_stays}
 
 -- where the sum isn't 0, one of the numbers isn't
 some_part : (l : List ℕ) → 0 < total l → (j : ℕ) × OfSeat (λ n. 0 < n) l j
@@ -306,13 +307,6 @@ module _ {B : Type 0} (program : Bool → B → Program B) (key : Key B) (u : Ru
       keeps_owner (call.sees_owner_by t d) n st m' on told =
           told.0 ∙ ap (λ i. word u.now.words (own_at i)) (eqb-true d c on)
       keeps_owner a n st m' on told = absurd (cc)
-
--- an asked step is a step of a table
-pub plain_step : {B : Type 0} (program : Bool → B → Program B) (key : Key B) (s t : State (Option (Rec B)) (View B))
-    → IsAskedStep program key s t → IsTableStep program key s t
-plain_step program key s t (inl k) = inl k.made
-plain_step program key s t (inr (inl p)) = inr (inl p)
-plain_step program key s t (inr (inr p)) = inr (inr p.merge)
 
 module _ {B : Type 0} (program : Bool → B → Program B) (key : Key B) (lasting : CellsAreForGood B)
     (u w : Ruled program key) (z : (contents_at program key u).words.live ≡ 0)

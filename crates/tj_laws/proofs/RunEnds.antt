@@ -19,10 +19,10 @@ use Rattle.tj_record.specs.declared.record.Rec.{Rec}
 use Rattle.tj_words.specs.declared.view.View.{View}
 use Rattle.tj_words.proofs.Lemmas.{begun_there}
 use Rattle.tj_words.proofs.Meaning.RestingCells.{owner_forth}
-use Rattle.tj_laws.specs.Moments.{contents_at}
+use Rattle.tj_runs.specs.Moments.{contents_at}
 use Rattle.tj_laws.specs.OwnMoments.{AlarmsAreClosed, KeepsTo, OwnMomentsStand}
 use Rattle.tj_laws.specs.TableWaits.{HasAlarmed, IsCycle, Leads}
-use Rattle.tj_laws.proofs.PhaseRows.{phases_for_good}
+use Rattle.tj_runs.proofs.PhaseRows.{phases_for_good}
 use Rattle.tj_laws.proofs.RestedWords.{rested_stay, stops_stay}
 use Rattle.tj_laws.proofs.TableCycles.{every_moment}
 

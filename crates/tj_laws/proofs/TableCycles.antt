@@ -33,7 +33,7 @@ use Rattle.tj_words.specs.LawParts.ShownState.{hand_stage, phase_sort, stage_sho
 use Rattle.tj_words.specs.Steps.StepEvents.{IsBegun, wait_in}
 use Rattle.tj_words.specs.Words.Lists.{cell}
 use Rattle.tj_words.proofs.Lemmas.{begun_there, cell_there, owner_out, parts_of, stage_out, wait_shown}
-use Rattle.tj_laws.specs.Moments.{shown_at}
+use Rattle.tj_runs.specs.Moments.{shown_at}
 use Rattle.tj_laws.specs.TableWaits.{AlarmsAreOnCycles, AlarmsStay, CyclesAreWatched, CyclesStay, EveryMoment}
 use Rattle.tj_laws.specs.TableWaits.{HasAlarmed, IsCycle, Leads, NoOtherWaitNoCycle, NoneWhereNoOther, Waits}
 use Rattle.tj_laws.proofs.CoreCycles.{StandsOn, none_stands, stands_on}

@@ -1,7 +1,5 @@
 pub mod Closes
-pub mod Moments
 pub mod TableWaits
-pub mod PhaseChanges
 pub mod Holders
 pub mod RestedTables
 pub mod WithinMeaning
@@ -13,4 +11,4 @@ pub mod StrictJoins
 pub mod SlotsInHand
 pub mod ClosedNames
 pub mod LoggedPhases
-pub mod EndedRecords
+pub mod EndedStores

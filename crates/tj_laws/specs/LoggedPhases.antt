@@ -20,7 +20,7 @@ use Rattle.tj_words.specs.CallLaws.StepLogs.{entry_of}
 use Rattle.tj_words.specs.LawParts.Contents.{contents_of}
 use Rattle.tj_words.specs.LawParts.FirstState.{first_slots}
 use Rattle.tj_words.specs.Words.Phases.{phase_in}
-use Rattle.tj_laws.specs.PhaseChanges.{IsForGood}
+use Rattle.tj_runs.specs.PhaseChanges.{IsForGood}
 
 -- the step stands in the log of the seat j, or in one that this seat has taken in
 abbrev pub HasLogged : {S V : Type 0} → ℕ → Entry → Past S V → Type 0

@@ -14,8 +14,9 @@ use Rattle.tj_words.specs.declared.phase.Phase.TheVariants as phase
 use Rattle.tj_words.specs.declared.table.Key.{Key}
 use Rattle.tj_words.specs.CallLaws.CallRuns.{AreAskedMoments, IsAskedStep}
 use Rattle.tj_words.specs.CallLaws.RestedRuns.{Ruled, last_moment}
-use Rattle.tj_laws.specs.Holders.{Holds, claims, phase_then}
-use Rattle.tj_laws.specs.Moments.{IsNew, contents_at}
+use Rattle.tj_laws.specs.Holders.{claims, phase_then}
+use Rattle.tj_runs.specs.Moments.{IsNew, contents_at}
+use Rattle.tj_runs.specs.TaskHolders.{Holds}
 use Rattle.tj_laws.specs.TableWaits.{HasAlarmed}
 
 module _ {B : Type 0} (places : B → ℕ) (awaits : B → Await) (left : B → ℕ) (asks : B → Answer → Ask B)

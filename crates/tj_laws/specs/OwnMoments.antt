@@ -20,8 +20,8 @@ use Rattle.tj_words.specs.declared.closed.RestCell.{RestCell}
 use Rattle.tj_record.specs.declared.record.Rec.{Rec}
 use Rattle.tj_words.specs.declared.table.Key.{Key}
 use Rattle.tj_words.specs.declared.view.View.{View}
-use Rattle.tj_laws.specs.Moments.{contents_at}
-use Rattle.tj_laws.specs.PhaseChanges.{LastPhasesStay}
+use Rattle.tj_runs.specs.Moments.{contents_at}
+use Rattle.tj_runs.specs.PhaseChanges.{LastPhasesStay}
 use Rattle.tj_laws.specs.RestedTables.{IsStill, StopStays}
 use Rattle.tj_laws.specs.TableWaits.{AlarmsAreOnCycles, AlarmsStay, CyclesAreWatched, CyclesStay, HasAlarmed, IsCycle}
 

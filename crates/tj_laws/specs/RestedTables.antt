@@ -4,7 +4,7 @@ use Rattle.tj_words.specs.declared.phase.Phase.TheVariants as phase
 use Rattle.tj_words.specs.LawParts.Contents.{Contents, drawn_in, hand_of, home_of, tag_in}
 use Rattle.tj_words.specs.LawParts.LiveCount.{DoesRun, DoesWalk, HoldsIn}
 use Rattle.tj_words.specs.Words.Lists.{OfSeat}
-use Rattle.tj_laws.specs.Moments.{Always, EverAfter, InEachRun, contents_at}
+use Rattle.tj_runs.specs.Moments.{Always, EverAfter, InEachRun, contents_at}
 
 module _ {B : Type 0} (x y : Contents B) where
   -- no cell is drawn, and LIVE is 0 still; the records at home, and TAG, OWN and PHASE of each cell that isn't in hand,

@@ -10,7 +10,7 @@ use Rattle.tj_words.specs.declared.table.Key.{Key}
 use Rattle.tj_words.specs.CallLaws.CallRuns.{AreAskedMoments, AreShown, joined}
 use Rattle.tj_words.specs.CallLaws.RestedRuns.{Ruled}
 use Rattle.tj_laws.specs.Closes.{HasSettled}
-use Rattle.tj_laws.specs.Moments.{IsNew}
+use Rattle.tj_runs.specs.Moments.{IsNew}
 
 -- no cell is closed twice among these events
 abbrev pub AreClosedOnce : List Event → Type 0

@@ -11,7 +11,7 @@ use Rattle.tj_words.specs.declared.phase.Phase.TheVariants as phase
 use Rattle.tj_words.specs.declared.table.Key.{Key}
 use Rattle.tj_words.specs.CallLaws.RestedRuns.{Ruled}
 use Rattle.tj_words.specs.LawParts.Contents.{Contents}
-use Rattle.tj_laws.specs.Moments.{Always, EverAfter, contents_at, shown_at}
+use Rattle.tj_runs.specs.Moments.{Always, EverAfter, contents_at, shown_at}
 
 module _ {B : Type 0} (x : Contents B) where
   -- PHASE of t says that t waits for cell c

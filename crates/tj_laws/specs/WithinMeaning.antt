@@ -21,7 +21,7 @@ use Rattle.tj_words.specs.LawParts.Hands.{IsThere}
 use Rattle.tj_words.specs.LawParts.ShownState.{phase_sort}
 use Rattle.tj_words.specs.LawParts.Telling.{BitsSay, Tells, TellsStage, tag_of}
 use Rattle.tj_words.specs.LawParts.TreeWords.{IsCell}
-use Rattle.tj_laws.specs.Moments.{contents_at, program_at}
+use Rattle.tj_runs.specs.Moments.{contents_at, program_at}
 
 module _ {B : Type 0} (limit : ℕ) (x : Contents B) where
   -- the cell is drawn, and isn't in hand

@@ -1,6 +1,7 @@
 //! The laws of who holds a task, from a claim to the step by which it leaves.
-ghost use Rattle.tj_laws.specs.Holders.{OneSeatHolds, HoldersLast, HeldThroughout};
-ghost use Rattle.tj_laws.specs.Holders.{LaidThroughout, LoneSeatsHold, ReadiedOncePerClaim};
+ghost use Rattle.tj_laws.specs.Holders.{OneSeatHolds, HeldThroughout, LaidThroughout};
+ghost use Rattle.tj_laws.specs.Holders.{LoneSeatsHold, ReadiedOncePerClaim};
+ghost use Rattle.tj_runs.specs.TaskHolders.{HoldersLast};
 
 use tj_runs::{call_runs, lasting_words};
 

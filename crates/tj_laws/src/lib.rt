@@ -16,7 +16,7 @@ mod phases;
 mod rests;
 
 pub use channels::{receives_are_sends, sends_are_one};
-pub use ended::ended_records;
+pub use ended::ended_stores;
 pub use events::{closes, shown_events};
 pub use holders::one_holder;
 pub use joins::joins_against_the_order;

@@ -18,6 +18,6 @@ pub fn logged_phases<B>()
     // A step of the run that gave a slot back with a record in it, and so put it home, has it in front
     // of those that the view of its seat says that its steps put home. Which record that is,
     // `tj_park::release`, `park`, `shelve` and `finish` say by what they say of `put_home`; that of a
-    // task that has ended lies there for good (`ended_records`).
+    // task that has ended lies there for good (`tj_runs::ended_records`).
     ensures puts { PutsAreNoted B }
 {}

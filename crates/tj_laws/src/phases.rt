@@ -1,5 +1,5 @@
 //! The laws of PHASE over whole runs.
-ghost use Rattle.tj_laws.specs.PhaseChanges.{StepsGoByRows, PhasesAreForGood};
+ghost use Rattle.tj_runs.specs.PhaseChanges.{StepsGoByRows, PhasesAreForGood};
 
 /// At each step PHASE of a cell stays, or changes by a row of the stores or of the exchanges; and
 /// Ended, Alarmed and Promise stay for good.

@@ -15,19 +15,19 @@ use Rattle.tj_body.specs.declared.point.Entry.TheVariants as entry
 use Rattle.tj_body.specs.declared.point.PointStage.TheVariants as stage
 
 -- a task that hasn't ended owns its result, and then what it holds
-pub open_owned : (s : PointStage) (x : Name) (holds : List Name) → IsOpen s → owned_in s x holds ≡ x ∷ holds
+open_owned : (s : PointStage) (x : Name) (holds : List Name) → IsOpen s → owned_in s x holds ≡ x ∷ holds
 open_owned (stage.Closed e) x holds o = absurd o
 open_owned s x holds o = refl
 
 -- of lists that agree element by element, what stands beside an element of either
-pub beside : {A C : Type 0} (F : A → C → Type 0) (xs : List A) (ys : List C) → ArePairs F xs ys → (x : A) → IsIn x xs
+beside : {A C : Type 0} (F : A → C → Type 0) (xs : List A) (ys : List C) → ArePairs F xs ys → (x : A) → IsIn x xs
     → (y : C) × IsIn y ys × F x y
 beside F [] ys h x i = absurd i
 beside F (a ∷ xs) [] h x i = absurd h
 beside F (a ∷ xs) (c ∷ ys) h x (inl e) = (c, inl refl, subst (λ z. F z c) (sym e) h.0)
 beside F (a ∷ xs) (c ∷ ys) h x (inr i) = let w = beside F xs ys h.1 x i in (w.0, inr w.1, w.2)
 
-pub beside_back : {A C : Type 0} (F : A → C → Type 0) (xs : List A) (ys : List C) → ArePairs F xs ys → (y : C)
+beside_back : {A C : Type 0} (F : A → C → Type 0) (xs : List A) (ys : List C) → ArePairs F xs ys → (y : C)
     → IsIn y ys → (x : A) × IsIn x xs × F x y
 beside_back F xs [] h y i = absurd i
 beside_back F [] (c ∷ ys) h y i = absurd h

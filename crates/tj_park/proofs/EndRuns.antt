@@ -1,9 +1,11 @@
 -- The steps by which a task ends, over what its end begins with: its promises are broken, and no record lies in the
--- other slots of its seat.
-use Rattle.tj_park.proofs.Prelude.{Bool, CellId, HasBroken, HasNoRecord, HasWoken, IsTailOf, List, MayCloseResult}
-use Rattle.tj_park.proofs.Prelude.{MayFinish, MayLowerLive, MayWake, OrderedHasSame, Program, Rec, SeatMe, SlotsOf}
-use Rattle.tj_park.proofs.Prelude.{Option, Some, View, WritesBecome, [], ap, became, drop, ended_record, lowered_with}
-use Rattle.tj_park.proofs.Prelude.{rest, result_of, subst, sym, ℕ, ◌∙◌, ◌∷◌, ◌≡◌}
+-- other slots of its seat. By the view that is left the record lies at home for good.
+use Rattle.tj_park.proofs.Prelude.{Bool, CellId, HasBroken, HasNoRecord, HasWoken, IsIn, IsTailOf, List}
+use Rattle.tj_park.proofs.Prelude.{MayCloseResult, MayFinish, MayLowerLive, MayWake, OrderedHasSame, Program, Rec}
+use Rattle.tj_park.proofs.Prelude.{SeatMe, SlotsOf, Option, Some, View, WritesBecome, [], ap, became, drop}
+use Rattle.tj_park.proofs.Prelude.{ended_record, inl, lowered_with, refl, rest, result_of, subst, sym, ℕ, ◌∙◌, ◌∷◌}
+use Rattle.tj_park.proofs.Prelude.{◌≡◌}
+use Rattle.tj_runs.specs.HomeRecords.{EndedRecordsLie, LiesForGood}
 use Rattle.tj_words.specs.Calls.LiveViews.{MayEnd, ended, homed}
 use Rattle.tj_record.specs.declared.record.Finish.{Finish}
 use Rattle.tj_park.specs.Endings.{HasFinished}
@@ -120,3 +122,10 @@ module _ {B : Type 0} {program : Bool → B → Program B} {t : ℕ} {r : Rec B}
           pub unnoted_last : HasNotedNothing v5 m6.0
           unnoted_last = steps.lowered_unnoted program t r v e.may e.written e.ordered v1 e.broken (rest mine) e.others
               v5 m6 lowered
+
+-- its record lies at home for good
+pub lies_for_good : {B : Type 0} (program : Bool → B → Program B) (t : ℕ) (r : Rec B) (v w : View B)
+    → EndedRecordsLie B → MayFinish program t r v → HasFinished t r v w → LiesForGood program t (ended_record r) w
+lies_for_good program t r v w lie may ends = subst (λ k. LiesForGood program k (ended_record r) w) may.has.cell
+    (lie program w (ended_record r) (subst (IsIn (ended_record r)) (sym ends.put_home) (inl refl))
+    (may.finish, may.finished))

@@ -10,8 +10,6 @@ pub mod EndPoints
 pub mod EndSteps
 pub mod ResultCloses
 pub mod TestRoots
-mod ClosedTasks
-pub mod OwedRecords
 pub mod NothingToCome
 pub mod Prelude
 pub mod EndRuns

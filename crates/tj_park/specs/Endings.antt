@@ -1,9 +1,6 @@
 -- How a task ends: what `finish` asks of the record, of the point of the task's history that it tells and of the seat,
 -- and what it makes of the seat.
-use Rattle.std.specs.Prelude.{◌≡◌, ◌⊎◌, ◌↔◌, ℕ, ◌+◌, ◌<◌, ◌∷◌, Bool, List, [], drop, Option, Some, None}
-use mathlib.Core.Option.{some}
-use lib.ListN.{get_elem?}
-use Rattle.atomic_table.specs.Table.{State}
+use Rattle.std.specs.Prelude.{◌≡◌, ℕ, ◌+◌, ◌<◌, ◌∷◌, Bool, List, drop, Some, None}
 use Rattle.tj_base.specs.declared.cell.CellId.{CellId}
 use Rattle.tj_body.specs.History.{after_close}
 use Rattle.tj_body.specs.Points.{IsIn}
@@ -20,17 +17,14 @@ use Rattle.tj_body.specs.declared.point.Reference.{Reference}
 use Rattle.tj_record.specs.declared.record.Finish.{Finish}
 use Rattle.tj_record.specs.declared.record.Rec.{Rec}
 use Rattle.tj_record.specs.TaskRecords.{ended_record}
-use Rattle.tj_words.specs.declared.phase.Phase.TheVariants as phase
-use Rattle.tj_words.specs.declared.table.Key.{Key}
 use Rattle.tj_words.specs.declared.view.About.{About}
 use Rattle.tj_words.specs.declared.view.Custody.{Custody}
 use Rattle.tj_words.specs.declared.view.View.{View}
 use Rattle.tj_words.specs.LawParts.Holding.{held_in}
-use Rattle.tj_words.specs.Law.{IsRooted, Rule}
-use Rattle.tj_words.specs.LawParts.Contents.{contents_of, home_of}
+use Rattle.tj_words.specs.Law.{IsRooted}
 use Rattle.tj_words.specs.SeatViews.KnownEntries.{HasSeen}
 use Rattle.tj_words.specs.SeatViews.KnowsMore.{KnowsMore, HasSameWakes, HasSameHand, HasSameCounts}
-use Rattle.tj_words.specs.Words.Lists.{All, AreApart, Each}
+use Rattle.tj_words.specs.Words.Lists.{All, AreApart}
 use Rattle.tj_words.specs.LawParts.Meaning.{StandsIn}
 use Rattle.tj_words.specs.Steps.StepEvents.{MayAct}
 use Rattle.tj_words.specs.SeatViews.TaskLists.{let_go}
@@ -105,17 +99,3 @@ module _ {B : Type 0} where
     pub result : HasSeen w.filled t (result_of ending)
     -- the seat's steps put one record home, which is this one, its task having ended
     pub put_home : w.put_home ≡ ended_record r ∷ v.put_home
-
-  -- no seat holds the task
-  abbrev pub IsWithNobody : ℕ → List (View B) → Type 0
-  IsWithNobody t views = Each (λ j (v : View B). held_in v.tasks t ≡ None) views
-
-  -- in each table under the law in which a seat has this view, and in which PHASE of t is Ended or no seat holds t, it
-  -- is Ended, and a record of t lies at home that owns nothing, and owes these cells and no others
-  abbrev pub OwesAtHome : (Bool → B → Program B) → ℕ → List CellId → View B → Type 0
-  OwesAtHome program t owed v = (key : Key B) (s : State (Option (Rec B)) (View B)) → Rule program key s → (id : ℕ)
-      → get_elem? s.views id ≡ some v
-      → ((contents_of s).words.phase t ≡ phase.Ended) ⊎ IsWithNobody t s.views
-      → ((contents_of s).words.phase t ≡ phase.Ended)
-      × (r : Rec B) × (home_of (contents_of s) t ≡ Some r) × (r.owned ≡ [])
-      × ((c : CellId) → IsIn c r.owed ↔ IsIn c owed)

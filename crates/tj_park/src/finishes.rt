@@ -1,14 +1,16 @@
 //! The end of a task. Each promise that it owes is broken, and those who wait for it are woken; then its
 //! result is set or broken. From then on the task has ended, and its record goes home for good. Those
 //! who wait for the result are woken last, by the token that the end of the task gives.
-ghost use Rattle.std.specs.Prelude.{◌≡◌, ◌≤◌, [], ◌∷◌, drop, length, None, OnErr, OnOk, Some};
+ghost use Rattle.std.specs.Prelude.{◌≡◌, ◌≤◌, [], ◌∷◌, length, None, OnErr, OnOk, Some};
 ghost use Rattle.atomic_table.specs.Table.{rest};
 ghost use Rattle.tj_body.specs.Programs.{program_of};
+ghost use Rattle.tj_record.specs.TaskRecords.{ended_record};
+ghost use Rattle.tj_runs.specs.HomeRecords.{LiesForGood};
 ghost use Rattle.tj_words.specs.SeatViews.KnowsMore.{IsTailOf};
 ghost use Rattle.tj_words.specs.SeatViews.SeatSteps.{IsCellOf, IsSameSeat, IsSeatOf};
 ghost use Rattle.tj_cells.specs.CallLogs.{MakesClosed};
 ghost use Rattle.tj_park.specs.Inner.Breaks.{HasBroken, MayBreak};
-ghost use Rattle.tj_park.specs.Endings.{HasFinished, MayFinish, OwesAtHome};
+ghost use Rattle.tj_park.specs.Endings.{HasFinished, MayFinish};
 ghost use Rattle.tj_park.specs.EndLogs.{BreaksEach, BreaksSome, EndsTask, FailsToEnd, closed_with};
 ghost use Rattle.tj_park.specs.Inner.Closings.{ClosesResult, MayCloseResult, StepsOfClose};
 ghost use Rattle.tj_park.specs.Records.{HasNoRecord};
@@ -18,11 +20,10 @@ use crate::wakes::wake;
 use std::alloc::Global;
 use std::sync::Wait;
 use tj_base::{CellId, Oom};
-use tj_body::{
-    Body, history_stops, names_and_cells, names_are_apart, points_are_good, points_in_rounds,
-};
+use tj_body::{Body, names_and_cells, points_in_rounds};
 use tj_cells::{break_off, fill};
 use tj_ready::Pool;
+use tj_runs::ended_records;
 use tj_words::{Finish, Laid, Phase, Rec, WSeat};
 
 /// Ends task `t`, as its record says: breaks the promises that it owes, sets or breaks its result, puts
@@ -61,13 +62,13 @@ pub fn finish<B: Body, P: Pool, R: Wait>(
     ensures ended { OnOk result (HasFinished t.0 rec seat.old.me.0 seat.new.me.0) }
     // Its slot has left the seat too.
     ensures slots { OnOk result (seat.new.me.1 ≡ rest seat.old.me.1) }
-    // Its record went home: in each table under the law in which a seat has the view that `finish`
-    // leaves, and in which PHASE of the task is Ended, or no seat holds it, PHASE is Ended, and a
-    // record of the task lies at home that owns nothing, and owes the promises that were broken and
-    // no others. That one of the two is so in each table in whose run a seat has had this view, and
-    // that the record at home is then that of `ended`, the law `tj_laws::ended_records` says.
-    ensures home { OnOk result (OwesAtHome (program_of B.places B.awaits B.left B.asks B.then) t.0
-        (drop 1 rec.owned) seat.new.me.0) }
+    // This record lies at home for good: in each table in whose run (`tj_runs::tables_have_runs`) a
+    // seat has had, at whatever moment, the view that `finish` leaves, by what stands PHASE of the
+    // task is Ended, no seat holds the task, and the record that was passed, with its task ended,
+    // lies at home: it owns nothing, and owes the promises that were broken, in the order in which
+    // the task owned them.
+    ensures home { OnOk result (LiesForGood (program_of B.places B.awaits B.left B.asks B.then) t.0
+        (ended_record rec) seat.new.me.0) }
     // The steps of this call are: for each promise that it owed, in the order in which it owned
     // them, the promise is broken, and those who waited for it are woken as `wake` says; then the
     // result is closed as its record's finish says, PHASE of the task is stored as Ended, those who
@@ -82,10 +83,8 @@ pub fn finish<B: Body, P: Pool, R: Wait>(
         pool.old pool.new) }
 {
     points_in_rounds::<B>();
-    points_are_good::<B>();
-    history_stops::<B>();
-    names_are_apart::<B>();
     names_and_cells();
+    ended_records::<B>();
     let mut rec = rec;
     break_promises(rt, alloc, laid, seat, t, rec.promises(), pool)?;
     close_result(laid, seat, t, rec.finish());

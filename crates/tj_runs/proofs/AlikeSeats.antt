@@ -30,20 +30,22 @@ module _ {B : Type 0} (program : Bool → B → Program B) (key : Key B) where
   abbrev The : State (Option (Rec B)) (View B) → Contents B
   The s = contents_of s
 
-  abbrev plain : (s t : State (Option (Rec B)) (View B)) → IsAskedStep program key s t → IsTableStep program key s t
-  plain s t (inl c) = inl c.made
-  plain s t (inr (inl b)) = inr (inl b)
-  plain s t (inr (inr b)) = inr (inr b.merge)
+  -- an asked step is a step of a table
+  abbrev pub plain_step : (s t : State (Option (Rec B)) (View B)) → IsAskedStep program key s t
+      → IsTableStep program key s t
+  plain_step s t (inl c) = inl c.made
+  plain_step s t (inr (inl b)) = inr (inl b)
+  plain_step s t (inr (inr b)) = inr (inr b.merge)
 
   -- moments of calls that are asked for are moments
   abbrev pub plain_moments : (u : Ruled program key) (later : List (Ruled program key))
       → AreAskedMoments program key u later → AreMoments program key u later
   plain_moments u [] a = tt
-  plain_moments u (w ∷ ws) a = (plain u.now w.now a.0, plain_moments w ws a.1)
+  plain_moments u (w ∷ ws) a = (plain_step u.now w.now a.0, plain_moments w ws a.1)
 
   -- a push among them asks for a head that isn't shut
   open_push : (s t : State (Option (Rec B)) (View B)) (a : IsAskedStep program key s t)
-      → IsOpenPush program key s t (plain s t a)
+      → IsOpenPush program key s t (plain_step s t a)
   open_push s t (inl c) = λ p e. (subst (λ z. asked_by program key z c.made.operands c.made.seat) e c.asks).4
   open_push s t (inr (inl b)) = tt
   open_push s t (inr (inr b)) = tt
@@ -68,7 +70,7 @@ module _ {B : Type 0} (program : Bool → B → Program B) (key : Key B) where
       × (named (last_moment program key u later) c ≡ named u c)
   names_stay u [] a c l = (l, refl)
   names_stay u (w ∷ ws) a c l =
-      let more = count_never_falls B program key u (w ∷ []) (plain u.now w.now a.0, tt) in
+      let more = count_never_falls B program key u (w ∷ []) (plain_step u.now w.now a.0, tt) in
       let grows : drawn_in key.cells (The u.now) ≤ drawn_in key.cells (The w.now) = omega (arith, more) in
       let one = kept_name u.rule.law w.rule.law (keeps u w a.0) grows c l in
       let rest = names_stay w ws a.1 c (omega (arith, l, grows)) in

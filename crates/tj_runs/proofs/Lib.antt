@@ -16,3 +16,8 @@ pub mod CallViews
 pub mod SlotSteps
 pub mod OwnRuns
 pub mod PushRuns
+pub mod StepWords
+pub mod PhaseRows
+pub mod TaskHolders
+pub mod PutRecords
+pub mod HomeRecords

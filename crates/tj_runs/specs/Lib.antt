@@ -7,3 +7,7 @@ pub mod Verdicts
 pub mod AlikeSeats
 pub mod OwnRuns
 pub mod FreshTables
+pub mod Moments
+pub mod PhaseChanges
+pub mod TaskHolders
+pub mod HomeRecords

@@ -8,6 +8,7 @@
 ghost use Rattle.tj_words.specs.CallLaws.CallRuns as called;
 ghost use Rattle.tj_runs.specs.LastingWords as lasting;
 ghost use Rattle.tj_runs.specs.OwnRuns as own;
+ghost use Rattle.tj_runs.specs.HomeRecords as home;
 ghost use Rattle.tj_runs.specs.OneHolders as holder;
 ghost use Rattle.tj_runs.specs.OneStates as state;
 ghost use Rattle.tj_runs.specs.PushRuns as push;
@@ -144,4 +145,16 @@ pub fn own_runs<B>()
     // that LIVE is 0 once a seat has loaded it as 0. Where a walk of a task is at its end, no cycle
     // stood through the task just after it had published.
     ensures stand { own.OwnRunsStand B }
+{}
+
+/// Once a task has ended its record lies at home for good, as its seat put it there, and no seat takes
+/// the task any more.
+pub fn ended_records<B>()
+    // Law: where PHASE of a task is Ended and a record of it lies at home at some moment, this is so at
+    // each later moment, and no seat holds the task.
+    ensures stay { home.EndedRecordsStay B }
+    // Law: in the run that a table has (`tables_have_runs`), where the view of a seat says at some
+    // moment that its steps put home a record which has a finish, by what stands PHASE of the record's
+    // task is Ended, no seat holds the task, and this very record lies at home.
+    ensures lie { home.EndedRecordsLie B }
 {}

@@ -7,8 +7,8 @@ mod laws;
 
 pub use alike_laws::alike_seats;
 pub use laws::{
-    call_runs, ended_walks, found_chains, lasting_words, moments, one_state, own_runs, rested_runs,
-    slot_steps, wakes,
+    call_runs, ended_records, ended_walks, found_chains, lasting_words, moments, one_state,
+    own_runs, rested_runs, slot_steps, wakes,
 };
 pub use table_laws::{fresh_is_first, tables_have_runs};
 

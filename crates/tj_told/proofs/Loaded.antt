@@ -24,7 +24,7 @@ use Rattle.tj_log.specs.Runs.{log_of, took_of}
 use Rattle.tj_body.specs.Points.{IsIn}
 use Rattle.atomic_table.specs.Table.{State}
 use Rattle.tj_words.specs.declared.table.Key.{Key}
-use Rattle.tj_laws.specs.Moments.{contents_at}
+use Rattle.tj_runs.specs.Moments.{contents_at}
 use Rattle.tj_laws.specs.TableWaits.{CyclesStay, EveryMoment, IsCycle, Leads, Waits}
 use Rattle.tj_told.specs.ToldLoads.{ArePartOf, ComesBack, HasRound, Turn, loads_of, owner_load, phase_load}
 

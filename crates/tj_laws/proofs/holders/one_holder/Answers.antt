@@ -1,6 +1,7 @@
 use Rattle.tj_laws.proofs.LoneHolders.{lone_seats_hold}
 use Rattle.tj_laws.proofs.ReadyCounts.{readied_once}
-use Rattle.tj_laws.proofs.TaskHolders.{held_throughout, holders_last, laid_throughout, one_seat_holds}
+use Rattle.tj_laws.proofs.HeldTasks.{held_throughout, laid_throughout, one_seat_holds}
+use Rattle.tj_runs.proofs.TaskHolders.{holders_last}
 use Rattle.tj_laws.proofs.holders.one_holder.Goals as goal
 
 pub returns-clause-one : goal.returns-clause-one

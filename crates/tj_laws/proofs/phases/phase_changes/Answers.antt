@@ -1,4 +1,4 @@
-use Rattle.tj_laws.proofs.PhaseRows.{phases_for_good, steps_by_rows}
+use Rattle.tj_runs.proofs.PhaseRows.{phases_for_good, steps_by_rows}
 use Rattle.tj_laws.proofs.phases.phase_changes.Goals as goal
 
 pub returns-clause-rows : goal.returns-clause-rows

@@ -1,9 +1,8 @@
-use Rattle.tj_park.proofs.Prelude.{MayBreak, inl, inr, numbers, program_of, result_of, subst, sym, ◌∙◌}
+use Rattle.tj_park.proofs.Prelude.{MayBreak, inl, inr, numbers, program_of, subst, sym, ◌∙◌}
 use Rattle.tj_park.proofs.EndSteps.{is_cell, may_break}
 use Rattle.tj_park.proofs.EndRuns.{begun, may_close, laid, may_end, at_end, may_wake, unnoted, about_woken, notes_woken}
-use Rattle.tj_park.proofs.EndRuns.{may_lower, finished, sent_home, slots_then, unnoted_last}
+use Rattle.tj_park.proofs.EndRuns.{lies_for_good, may_lower, finished, sent_home, slots_then, unnoted_last}
 use Rattle.tj_park.proofs.EndLogs.{stores_ended}
-use Rattle.tj_park.proofs.OwedRecords.{closes_once, owes_at_home}
 use Rattle.tj_park.proofs.WakeLoops.{on_err}
 use Rattle.tj_park.specs.EndLogs.{BreaksSome}
 use Rattle.tj_park.proofs.finishes.finish.Goals as goal
@@ -161,18 +160,11 @@ returns-in_err-wake-clause-memory g c =
     ))
 
 pub returns-clause-home : goal.returns-clause-home
-returns-clause-home g c = let m = c.requires.may in
+returns-clause-home g c =
+    let m = c.requires.may in
     let b = g.B.Body in
-    let program = program_of b.places b.awaits b.left b.asks b.then in
-    let s = m.about.strict in
-    let q = m.about.root in
-    let written = c.points_in_rounds.ensures.written s q m.rooted in
-    let done = returns-clause-ended g c in
-    owes_at_home program c.args.t.0 c.args.rec c.args.seat.now.me.0 c.live_down.new.seat.me.0 m written
-    c.names_and_cells.ensures.elements
-    (closes_once (program s q) (c.names_are_apart.ensures s q m.rooted) (c.points_are_good.ensures s q m.rooted)
-    (c.history_stops.ensures s) (c.points_in_rounds.ensures.later s q m.rooted))
-    done.knows.about done.knows.born (result_of done.ending) done.result
+    lies_for_good (program_of b.places b.awaits b.left b.asks b.then) c.args.t.0 c.args.rec c.args.seat.now.me.0
+    c.live_down.new.seat.me.0 c.ended_records.ensures.lie m (returns-clause-ended g c)
 
 pub returns-in_err-wake-clause-notes : goal.returns-in_err-wake-clause-notes
 returns-in_err-wake-clause-notes g c =

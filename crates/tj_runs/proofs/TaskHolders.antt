@@ -53,10 +53,9 @@ use Rattle.tj_words.proofs.Lemmas.{none_some, one_some, parts_of}
 use Rattle.tj_events.proofs.OneCell.Frames.{some_none}
 use Rattle.tj_words.proofs.Cells.CellFacts.{task_shown}
 use Rattle.tj_words.proofs.Stores.SeatLists.{map_back, of_seat_snoc}
-use Rattle.tj_laws.specs.Moments.{contents_at, shown_at}
-use Rattle.tj_laws.specs.Holders.{HeldThroughout, Holds, HoldersAreOne, HoldersLast, HoldersStay, IsFree}
-use Rattle.tj_laws.specs.Holders.{LaidThroughout, OneSeatHolds, RecordsStay}
-use Rattle.tj_laws.proofs.RestedWords.{plain_step}
+use Rattle.tj_runs.specs.Moments.{contents_at, shown_at}
+use Rattle.tj_runs.specs.TaskHolders.{Holds, HoldersAreOne, HoldersLast, HoldersStay, IsFree, RecordsStay}
+use Rattle.tj_runs.proofs.AlikeSeats.{plain_step}
 
 module _ {B : Type 0} where
   -- the view has something for t
@@ -326,21 +325,6 @@ module _ {B : Type 0} (program : Bool → B → Program B) (key : Key B) (runs :
     by (Some j) e = inr (j, w.rule.law.custody.holders t j e)
     by None e = let f = free_of w.rule.law t e in inl (f, lies a f)
 
-pub one_seat_holds : (B : Type 0) → OneSeatHolds B
-one_seat_holds B program key u = one_holder u.rule.law
-
 pub holders_last : (B : Type 0) → CallRunsAreRuns B → CountNeverFalls B → HoldersLast B
 holders_last B runs counts program key u w a =
     (holders_stay program key runs counts u w a, records_stay program key runs counts u w a)
-
-pub held_throughout : (B : Type 0) → CallRunsAreRuns B → CountNeverFalls B → HeldThroughout B
-held_throughout B runs counts program key t j u [] a h held = h
-held_throughout B runs counts program key t j u (w ∷ ws) a h held = ⊎_elim
-    (λ z. held_throughout B runs counts program key t j w ws a.1 z held.1)
-    (λ z. absurd (held.0 z.0)) ((holders_last B runs counts program key u w a.0).0 t j h)
-
-pub laid_throughout : (B : Type 0) → CallRunsAreRuns B → CountNeverFalls B → LaidThroughout B
-laid_throughout B runs counts program key t r u [] a free home none_holds = home
-laid_throughout B runs counts program key t r u (w ∷ ws) a free home none_holds = ⊎_elim
-    (λ z. laid_throughout B runs counts program key t r w ws a.1 z.0 z.1 none_holds.1)
-    (λ z. absurd (none_holds.0 z.0 z.1)) ((holders_last B runs counts program key u w a.0).1 t r free home)

@@ -37,7 +37,7 @@ use Rattle.tj_words.specs.declared.view.View.{View}
 use Rattle.tj_words.proofs.Lemmas.{none_some}
 use Rattle.tj_words.proofs.SeatLoads.MetCells.{begun_or}
 use Rattle.tj_words.proofs.Waiters.ChainsSaid.{shut_or}
-use Rattle.tj_laws.specs.EndedRecords.{HasFinish}
+use Rattle.tj_runs.specs.HomeRecords.{HasFinish}
 
 module _ {B : Type 0} where
   -- both views say the same of the records put home

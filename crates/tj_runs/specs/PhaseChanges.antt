@@ -10,7 +10,7 @@ use Rattle.tj_words.specs.declared.table.Key.{Key}
 use Rattle.tj_words.specs.CallLaws.CallRuns.{IsAskedStep}
 use Rattle.tj_words.specs.CallLaws.RestedRuns.{Ruled}
 use Rattle.tj_words.specs.LawParts.Contents.{Contents}
-use Rattle.tj_laws.specs.Moments.{EverAfter, contents_at}
+use Rattle.tj_runs.specs.Moments.{EverAfter, contents_at}
 
 -- p may be stored where this phase stands: Ready or Promise over Unborn, a walk or Ended over Running, Parked or
 -- Alarmed over the walk of the same wait

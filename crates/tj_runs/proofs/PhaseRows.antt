@@ -34,10 +34,10 @@ use Rattle.tj_words.specs.Words.Phases.{phase_in}
 use Rattle.tj_words.proofs.Prelude.{at_map}
 use Rattle.tj_words.proofs.Stores.TableWords.{is_word}
 use Rattle.tj_words.proofs.Stores.TableWords as table_word
-use Rattle.tj_laws.specs.Moments.{contents_at}
-use Rattle.tj_laws.specs.PhaseChanges.{IsExchangedFor, IsForGood, IsStoredOver, PhasesAreForGood}
-use Rattle.tj_laws.specs.PhaseChanges.{PhasesGoByRows, StepsGoByRows}
-use Rattle.tj_laws.proofs.StepWords.{IsLeftBy, word_of, word_stays}
+use Rattle.tj_runs.specs.Moments.{contents_at}
+use Rattle.tj_runs.specs.PhaseChanges.{IsExchangedFor, IsForGood, IsStoredOver, PhasesAreForGood}
+use Rattle.tj_runs.specs.PhaseChanges.{PhasesGoByRows, StepsGoByRows}
+use Rattle.tj_runs.proofs.StepWords.{IsLeftBy, word_of, word_stays}
 
 -- the phase goes by a row, or stays
 abbrev pub GoesByRow : Phase → Phase → Type 0

@@ -6,10 +6,11 @@ use mathlib.Core.Logic.{dite}
 use mathlib.Core.Option.{some, some-injective, some-ne-none}
 use native.Mathlib.Decide.{ℕ_discrete}
 use lib.ListN.{get_elem?}
-use Rattle.atomic_table.proofs.Lists.{set_else}
+use Rattle.atomic_table.proofs.Lists.{set_else, set_here}
 use Rattle.atomic_table.specs.Table.{Act, State, gives, homes_after, rest}
 use Rattle.tj_body.specs.Points.{IsIn}
 use Rattle.tj_body.specs.Programs.{Program}
+use Rattle.tj_log.proofs.Entries.{at_bound}
 use Rattle.tj_record.specs.declared.record.Rec.{Rec}
 use Rattle.tj_words.specs.CallLaws.CallRuns.{AreAskedMoments, CallRunsAreRuns, IsAskedCall, IsAskedStep, acts_by}
 use Rattle.tj_words.specs.CallLaws.CallRuns.{asked_by, phase_act}
@@ -33,21 +34,20 @@ use Rattle.tj_words.proofs.Prelude.{phase_sort}
 use Rattle.tj_words.proofs.Stores.SeatLists.{word_here}
 use Rattle.tj_runs.specs.LastingWords.{CountNeverFalls}
 use Rattle.tj_runs.specs.OwnRuns.{AreTheLast, OwnRunsStand}
-use Rattle.tj_laws.specs.EndedRecords.{EndedRecordsLie, EndedRecordsStay, HasFinish, LiesEnded}
-use Rattle.tj_laws.specs.Holders.{IsFree}
-use Rattle.tj_laws.specs.Moments.{contents_at}
-use Rattle.tj_laws.specs.PhaseChanges.{IsForGood}
-use Rattle.tj_laws.proofs.PhaseRows.{phases_for_good}
-use Rattle.tj_laws.proofs.PutRecords.{EndsWith, call_ends}
-use Rattle.tj_laws.proofs.SlotsAway.{put_there}
-use Rattle.tj_laws.proofs.TaskHolders.{free_of, holders_last}
+use Rattle.tj_runs.specs.HomeRecords.{EndedRecordsLie, EndedRecordsStay, HasFinish, LiesEnded}
+use Rattle.tj_runs.specs.Moments.{contents_at}
+use Rattle.tj_runs.specs.PhaseChanges.{IsForGood}
+use Rattle.tj_runs.specs.TaskHolders.{IsFree}
+use Rattle.tj_runs.proofs.PhaseRows.{phases_for_good}
+use Rattle.tj_runs.proofs.PutRecords.{EndsWith, call_ends}
+use Rattle.tj_runs.proofs.TaskHolders.{free_of, holders_last}
 
 -- what stands in a list with one element put in stood there, or is it; so it is of a list with one element more
 set_back : {A : Type 0} (l : List A) (j i : ℕ) (x old v : A) → get_elem? l j ≡ some old
     → get_elem? (set l j x) i ≡ some v → (get_elem? l i ≡ some v) ⊎ (v ≡ x)
 set_back l j i x old v at e = dite (ℕ_discrete i j)
     (λ q. inr (some-injective v x
-    (sym e ∙ (ap (get_elem? (set l j x)) q ∙ put_there l j old x at))))
+    (sym e ∙ (ap (get_elem? (set l j x)) q ∙ set_here l j x (at_bound l j old at)))))
     (λ n. inl (sym (set_else l j i x n) ∙ e))
 
 snoc_back : {A : Type 0} (l : List A) (x : A) (i : ℕ) (v : A) → get_elem? (l ++ x ∷ []) i ≡ some v
@@ -194,10 +194,10 @@ pub ended_records_stay : (B : Type 0) → CallRunsAreRuns B → CountNeverFalls 
 ended_records_stay B runs counts program key u later a t r e h = stay program key runs counts t r u later a e h
 
 pub ended_records_lie : (B : Type 0) → CallRunsAreRuns B → CountNeverFalls B → OwnRunsStand B → EndedRecordsLie B
-ended_records_lie B runs counts own program key s run w more last id v at r i f =
+ended_records_lie B runs counts own program v r i f key s run w more last id at =
     let st = own program key s run w more last in
     let z = lie_at program key runs counts run.first run.later run.moments
-    (first_lie program key runs counts run.first _ (ap (λ (x : State (Option (Rec B)) (View B)). x.views) run.start) refl)
-    w more last r (id, v, at, i) f in
+    (first_lie program key runs counts run.first _
+    (ap (λ (x : State (Option (Rec B)) (View B)). x.views) run.start) refl) w more last r (id, v, at, i) f in
     subst (λ (x : State (Option (Rec B)) (View B)). LiesEnded (contents_of x) r.cell.0 r) st.last
     (stay program key runs counts r.cell.0 r w more st.moments z.ended z.home)
