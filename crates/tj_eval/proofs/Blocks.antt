@@ -24,7 +24,8 @@ module _ {X A : Type 0} (now : X → List A) where
   rest_of-push (y ∷ xs) x = ap (λ z. z ++ now y) (rest_of-push xs x)
       ∙ append_assoc (now x) (rest_of (map now xs)) (now y)
 
-nil_of : {A : Type 0} (xs : List A) → length xs ≡ 0 → xs ≡ []
+-- a list of no elements
+pub nil_of : {A : Type 0} (xs : List A) → length xs ≡ 0 → xs ≡ []
 nil_of [] e = refl
 nil_of (x ∷ xs) e = absurd (omega arith)
 
@@ -43,6 +44,13 @@ module _ {X A B : Type 0} (now : X → List A) (f : A → B) where
       ∙ ap (λ b. map f b ++ rest_of (map seen xs)) (nil_of outer o)
       ∙ ap (λ w. rest_of (map seen w)) e ∙ rest_of-push seen new x ∙ ap (λ w. map f w ++ rest_of (map seen new)) g
       ∙ ap (λ w. f s ∷ (map f rest ++ w)) (ap (λ b. map f b ++ rest_of (map seen new)) (sym (nil_of outer o)))
+
+-- where nothing remains of the innermost block, the one around it comes next
+pub next-outer : {A B : Type 0} (f : A → B) (block outer : List A) (around : List B) (s : A) (rest : List A)
+    → length block ≡ 0 → outer ≡ s ∷ rest
+    → map f block ++ (map f outer ++ around) ≡ f s ∷ (map f rest ++ around)
+next-outer f block outer around s rest z e = ap (λ b. map f b ++ (map f outer ++ around)) (nil_of block z)
+    ∙ ap (λ b. map f b ++ around) e
 
 -- values in front of those that are still computed
 abbrev pub ahead : List Pay → Result (List Pay) Trouble → Result (List Pay) Trouble

@@ -1,14 +1,18 @@
 -- The path to the next ask, one statement at a time.
-use Rattle.std.proofs.Common.{◌≡◌, ℕ, zero, suc, ◌-◌, ◌<◌, List, [], ◌∷◌, pos, ap, sym, ◌∙◌, arith}
+use Rattle.std.proofs.Common.{◌≡◌, ℕ, zero, suc, ◌-◌, ◌<◌, ℤ, List, [], ◌∷◌, ◌++◌, pos, refl, ap, sym, ◌∙◌, arith}
+use Rattle.std.proofs.Common.{append_assoc}
 use Rattle.tj_base.specs.declared.value.Pay.TheVariants as pay
 use Rattle.tj_base.specs.declared.cause.Trouble.{Trouble}
 use Rattle.tj_base.specs.declared.cause.Trouble.TheVariants as trouble
 use Rattle.tj_body.specs.declared.ask.Ask.TheVariants as ask
-use Rattle.tj_syntax.specs.Trees.{Statement}
-use Rattle.std.specs.Prelude.{Bool, true, false, Ok, Err}
+use Rattle.tj_syntax.specs.Trees as tree
+use Rattle.tj_syntax.specs.Trees.{Expression, Statement, Statements}
+use Rattle.std.specs.Prelude.{Bool, true, false, Ok, Err, if◌then◌else◌}
 use Rattle.tj_eval.specs.declared.halt.Halt.TheVariants.{Fault}
+use Rattle.tj_eval.specs.Expressions.{is_zero}
 use Rattle.tj_eval.specs.Inner.Effects.{IsStep, is_ask}
 use Rattle.tj_eval.specs.Statements.{TaskState, ended, failed, begun, next_from, next_of, next_ask}
+use Rattle.tj_eval.specs.Statements.{first, goes_on, listed, number, then_effect, value_in}
 
 -- where no statement is left the task ends, at no cost
 pub next_ask-done : (n : ℕ) (t : TaskState) → t.rest ≡ [] → next_ask n t ≡ (ask.End (pay.Num (pos 0)), ended t)
@@ -76,3 +80,22 @@ module _ (old t : TaskState) (s : Statement) (r : old.rest ≡ s ∷ t.rest) (e 
         → next_ask old.steps old ≡ (ask.Fail fault, failed new)
     next_ask-fails fault new h = next_ask-begins old t s r e p
         ∙ ap (λ z. next_from on z (next_ask (t.steps - 1))) h.0 ∙ ap (λ z. (ask.Fail fault, failed z)) (sym h.1)
+
+-- a loop that comes next, and whose condition holds, begins anew and remains behind its body
+module _ (old : TaskState) (e : Expression) (body : Statements) (rest : List Statement) (n : ℤ)
+    (r : old.rest ≡ tree.repeat e body ∷ rest) (p : 0 < old.steps) (v : value_in old e ≡ Ok (pay.Num n))
+    (z : is_zero n ≡ false) (new : TaskState)
+    (g : new ≡ record old { rest = listed body ++ old.rest; steps = old.steps - 1 }) where
+  abbrev after : TaskState
+  after = record old { rest = rest; steps = old.steps - 1 }
+
+  turned : begun after (tree.repeat e body) ≡ goes_on new
+  turned = ap (λ c. then_effect (number c)
+      (λ i. goes_on (first (if is_zero i then [] else listed body ++ tree.repeat e body ∷ []) after))) v
+      ∙ ap (λ b. goes_on (first (if b then [] else listed body ++ tree.repeat e body ∷ []) after)) z
+      ∙ ap (λ list. goes_on (record after { rest = list })) (append_assoc (listed body) (tree.repeat e body ∷ []) rest)
+      ∙ ap (λ list. goes_on (record after { rest = listed body ++ list })) (sym r) ∙ ap (λ t. goes_on t) (sym g)
+
+  pub next_ask-turns : next_ask new.steps new ≡ next_ask old.steps old
+  next_ask-turns = sym (next_ask-goes_on old (record old { rest = rest }) (tree.repeat e body) r refl p new
+      (turned, ap (λ t. t.steps) g, ap (λ t. t.script) g))

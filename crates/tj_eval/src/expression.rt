@@ -8,6 +8,7 @@ use tj_base::{Pay, Trouble};
 use tj_syntax::{Expr, Op, Rel};
 
 /// What the variable holds.
+#[inline(always)]
 pub(crate) fn held(vars: &[Pay], x: u32) -> Pay
     ensures { result ≡ meaning.held vars.now x }
 {
@@ -97,6 +98,7 @@ pub(crate) fn reference_in(value: Pay) -> Result<u32, Trouble>
 }
 
 /// What the operator gives, if it is one of 64 bits.
+#[inline(always)]
 pub(crate) fn applied(op: Op, a: i64, b: i64) -> Option<i64>
     ensures { MatchOption result (meaning.applied op a b ≡ Err Trouble.Arith)
         (λ n. meaning.applied op a b ≡ Ok (Pay.Num n)) }
@@ -111,6 +113,7 @@ pub(crate) fn applied(op: Op, a: i64, b: i64) -> Option<i64>
 }
 
 /// Whether the comparison holds.
+#[inline(always)]
 pub(crate) fn compares(rel: Rel, a: i64, b: i64) -> bool
     ensures { result ≡ meaning.compares rel a b }
 {

@@ -9,8 +9,8 @@ use crate::expression::{applied, compares, held};
 use tj_base::Pay;
 use tj_syntax::{Expr, Op};
 
-/// The number that the expression comes to, if it is one. A variable, a number and the operators of a
-/// chain are read without a further call.
+/// The number that the expression comes to, if it is one. A variable, a number, and the operands of a
+/// chain and of a comparison are read without a further call.
 // It gives a number or nothing: a value or a fault takes memory, and is computed anew.
 #[inline(always)]
 pub(crate) fn quick(vars: &[Pay], e: &Expr) -> Option<i64>
@@ -20,8 +20,19 @@ pub(crate) fn quick(vars: &[Pay], e: &Expr) -> Option<i64>
         Expr::Num(n) => Some(*n),
         Expr::Var(x) => number_held(vars, *x),
         Expr::Chain(a, pairs) => {
-            let n = operand(vars, a)?;
+            let Some(n) = operand(vars, a) else {
+                return None;
+            };
             Some(chained(vars, n, pairs)?)
+        }
+        Expr::Cmp(rel, a, b) => {
+            let Some(n) = operand(vars, a) else {
+                return None;
+            };
+            let Some(m) = operand(vars, b) else {
+                return None;
+            };
+            Some(compares(*rel, n, m) as i64)
         }
         _ => computed(vars, e),
     }
@@ -41,6 +52,7 @@ fn operand(vars: &[Pay], e: &Expr) -> Option<i64>
 }
 
 /// The number that the variable holds, if it is one.
+#[inline(always)]
 fn number_held(vars: &[Pay], x: u32) -> Option<i64>
     ensures { IfSome result (λ n. meaning.held vars.now x ≡ pay.Num n) }
 {
@@ -59,18 +71,25 @@ fn computed(vars: &[Pay], e: &Expr) -> Option<i64>
         Expr::Num(_) | Expr::Var(_) | Expr::Me => None,
         Expr::Neg(a) => operand(vars, a)?.checked_neg(),
         Expr::Chain(a, pairs) => {
-            let n = operand(vars, a)?;
+            let Some(n) = operand(vars, a) else {
+                return None;
+            };
             Some(chained(vars, n, pairs)?)
         }
         Expr::Cmp(rel, a, b) => {
-            let n = operand(vars, a)?;
-            let m = operand(vars, b)?;
+            let Some(n) = operand(vars, a) else {
+                return None;
+            };
+            let Some(m) = operand(vars, b) else {
+                return None;
+            };
             Some(compares(*rel, n, m) as i64)
         }
     }
 }
 
 /// The number of a chain whose operands so far have come to n, if it is one.
+// By `?` the compiled loop would test twice whether there is a number.
 #[cycle(computed)]
 #[inline(always)]
 fn chained(vars: &[Pay], n: i64, pairs: &[(Op, Expr)]) -> Option<i64>
@@ -79,8 +98,13 @@ fn chained(vars: &[Pay], n: i64, pairs: &[(Op, Expr)]) -> Option<i64>
 {
     let mut so_far = n;
     for (op, e) in pairs {
-        let m = operand(vars, e)?;
-        so_far = applied(*op, so_far, m)?;
+        let Some(m) = operand(vars, e) else {
+            return None;
+        };
+        let Some(next) = applied(*op, so_far, m) else {
+            return None;
+        };
+        so_far = next;
     }
     Some(so_far)
 }

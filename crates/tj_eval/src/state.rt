@@ -102,6 +102,7 @@ fn push<'s>(blocks: &mut Vec<&'s [Stmt]>, block: &'s [Stmt]) -> Result<(), Oom>
 
 impl<'s> State<'s> {
     /// Takes the next of the remaining statements, if there is one.
+    #[inline(always)]
     pub(crate) fn take(&mut self) -> Option<&'s Stmt>
         ensures { MatchOption result ((self.old.rest ≡ []) × (self.new ≡ self.old))
             (λ stmt. (self.old.rest ≡ statement stmt.now ∷ self.new.rest)
@@ -151,6 +152,7 @@ impl<'s> State<'s> {
     }
 
     /// Puts the value into the variable, if there is one for it.
+    #[inline(always)]
     pub(crate) fn keep(&mut self, into: Option<u32>, v: Pay)
         ensures { self.new ≡ state.kept into v self.old }
     {

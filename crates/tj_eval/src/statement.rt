@@ -1,5 +1,5 @@
 //! Statements of a task: those that ask nothing are carried out one after another, up to one that asks.
-ghost use Rattle.std.specs.Prelude.{◌≡◌, IsTrue};
+ghost use Rattle.std.specs.Prelude.{◌≡◌, ◌≤◌, map, IsTrue};
 ghost use Rattle.tj_eval.specs.Bodies.{all_have_few_params};
 ghost use Rattle.tj_syntax.specs.View as view;
 ghost use Rattle.tj_eval.specs.Statements as state;
@@ -13,7 +13,16 @@ use std::alloc::Global;
 use std::slice;
 use tj_base::{Pay, Trouble};
 use tj_body::Ask;
-use tj_syntax::{Expr, Rhs, Stmt};
+use tj_syntax::{Block, Expr, Rhs, Stmt};
+
+/// The statements of the block.
+#[tactic(auto, using(crate::proofs::Views::listed_block))]
+#[inline(always)]
+fn statements(body: &Block) -> &[Stmt]
+    ensures { map view.statement result.now ≡ state.listed (view.block body.now) }
+{
+    &body.stmts
+}
 
 impl<'s> State<'s> {
     /// Goes on to the next statement that asks, if one is left, which has then begun. Those before
@@ -30,11 +39,35 @@ impl<'s> State<'s> {
             if !self.passes(stmt)? {
                 return Ok(Some(stmt));
             }
+            self.turn();
         }
         Ok(None)
     }
 
+    /// Where the body of a loop has ended and the loop's condition holds, begins the loop anew. The
+    /// loop stays where it lies.
+    #[inline(always)]
+    fn turn(&mut self)
+        ensures ask { state.next_ask self.new.steps self.new
+            ≡ state.next_ask self.old.steps self.old }
+        ensures steps { self.new.steps ≤ self.old.steps }
+        ensures script { self.new.script ≡ self.old.script }
+    {
+        if !self.block.is_empty() || self.steps == 0 {
+            return;
+        }
+        if let Some((Stmt::While(e, body), _)) = self.outer.split_first() {
+            if let Some(n) = quick(&self.vars, e) {
+                if n != 0 {
+                    self.steps -= 1;
+                    self.block = statements(body);
+                }
+            }
+        }
+    }
+
     /// Gives the variable the value of the expression.
+    #[inline(always)]
     fn give(&mut self, x: u32, e: &Expr) -> Result<(), Trouble>
         ensures { IsGiven self.old x (view.expression e.now) result self.new }
     {
