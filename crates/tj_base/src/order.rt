@@ -4,7 +4,7 @@ ghost use Rattle.std.specs.Cmp.Lexicographic.{slice_cmp};
 ghost use Rattle.std.specs.Ordering.{nat_cmp};
 ghost use Rattle.tj_base.specs.ForkOrder.{before, IsBefore};
 
-use crate::name::Name;
+use crate::name::{Name, compared};
 use std::cmp::Ordering;
 
 /// The name order: a name before all that begin with it, else the lower number first.
@@ -12,7 +12,7 @@ pub fn name_cmp(a: &Name, b: &Name) -> Ordering
     // The answer is the order of the names as lists: a prefix first, else the lower number first.
     ensures { result ≡ slice_cmp nat_cmp a.now b.now }
 {
-    a.parts().cmp(b.parts())
+    compared(a, b)
 }
 
 /// Whether task `a` is before task `b` in the fork order, in which each fork puts the child
@@ -25,23 +25,5 @@ pub fn path_before(a: &Name, b: &Name) -> bool
     // stands in a branch that was forked later.
     ensures order { IsTrue result ↔ IsBefore a.now b.now }
 {
-    numbers_before(a.parts(), b.parts())
-}
-
-fn numbers_before(mut a: &[u32], mut b: &[u32]) -> bool
-    ensures { result ≡ before a.entry.now b.entry.now }
-{
-    loop {
-        let [x, a_rest @ ..] = a else {
-            return !b.is_empty();
-        };
-        let [y, b_rest @ ..] = b else {
-            return false;
-        };
-        if x != y {
-            return y < x;
-        }
-        a = a_rest;
-        b = b_rest;
-    }
+    a.parts().is_before(&b.parts())
 }

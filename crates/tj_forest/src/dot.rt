@@ -138,12 +138,8 @@ fn forker<'t>(lookups: &Lookups<'t>, name: &Name) -> Option<&'t TraceLine>
     ensures { option_map (λ line. line.now) result
         ≡ spec.forker lookups.now.lines.now name.now }
 {
-    let parts = name.parts();
-    if parts.is_empty() {
-        return None;
-    }
-    let (maker, _) = parts.split_at(parts.len() - 1);
-    drawn_only(lookups.lines, line_named(lookups, maker))
+    let (_, maker) = name.parts().split_last()?;
+    drawn_only(lookups.lines, line_named(lookups, &maker))
 }
 
 /// The edge from the task that forked another.

@@ -16,10 +16,10 @@ struct Counts {
     against: usize,
 }
 
-/// A name with its text.
+/// A name's numbers with its text.
 #[derive(Drop)]
 struct Printed {
-    name: Name,
+    numbers: Vec<u32>,
     text: Vec<u8>,
 }
 
@@ -47,7 +47,7 @@ fn print_name(alloc: Global, name: &Name) -> Result<Printed, Oom>
     let mut text = Vec::new(alloc);
     name.text_into(alloc, &mut text)?;
     Ok(Printed {
-        name: name.copy(alloc)?,
+        numbers: name.numbers(alloc)?,
         text,
     })
 }
@@ -57,14 +57,12 @@ fn print_after(alloc: Global, last: Printed, name: &Name) -> Result<Printed, Oom
     requires { IsPrinted last }
     ensures { IfOk result (IsPrintedOf name.now) }
 {
-    match name.parts().strip_prefix(last.name.parts()) {
+    let numbers = name.numbers(alloc)?;
+    match numbers.as_slice().strip_prefix(last.numbers.as_slice()) {
         Some(rest) => {
             let mut text = last.text;
             add_numbers(rest, &mut text)?;
-            Ok(Printed {
-                name: name.copy(alloc)?,
-                text,
-            })
+            Ok(Printed { numbers, text })
         }
         None => print_name(alloc, name),
     }
@@ -75,7 +73,8 @@ fn add_name(alloc: Global, last: &Printed, name: &Name, text: &mut Vec<u8>) -> R
     requires { IsPrinted last.now }
     ensures { IfOk result (λ _. text.new.items ≡ text.old.items ++ name_text name.now) }
 {
-    match name.parts().strip_prefix(last.name.parts()) {
+    let numbers = name.numbers(alloc)?;
+    match numbers.as_slice().strip_prefix(last.numbers.as_slice()) {
         Some(rest) => {
             text.extend_from_slice(last.text.as_slice())?;
             add_numbers(rest, text)

@@ -215,7 +215,7 @@ fn new_learner(
 {
     Ok(Learner {
         steps: steps_of(alloc, lines, index, line.acts.items())?,
-        begun: line.name.parts().is_empty(),
+        begun: line.name.depth() == 0,
         marks: Vec::new(alloc),
         knows: Vec::new(alloc),
     })

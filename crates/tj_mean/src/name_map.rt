@@ -29,7 +29,7 @@ impl<V: Drop> NameMap<V> {
     pub fn get(&self, name: &Name) -> Option<&V>
         ensures { option_copied result ≡ value_at self.now name.now }
     {
-        let length = name.parts().len();
+        let length = name.depth();
         match self.lengths.get(&length) {
             Some(row) => row.get(name),
             None => None,
@@ -41,7 +41,7 @@ impl<V: Drop> NameMap<V> {
         ensures { IfOk result (λ _. (q : List ℕ) → value_at self.new q
             ≡ cond (same q name) (Some value) (value_at self.old q)) }
     {
-        let length = name.parts().len();
+        let length = name.depth();
         let mut row = match self.lengths.remove(&length) {
             Some(row) => row,
             None => BTreeMap::new(alloc),
@@ -57,7 +57,7 @@ impl<V: Drop> NameMap<V> {
         ensures stays { (q : List ℕ) → value_at self.new q
             ≡ cond (same q name.now) None (value_at self.old q) }
     {
-        let length = name.parts().len();
+        let length = name.depth();
         match self.lengths.get_mut(&length) {
             Some(row) => row.remove(name),
             None => None,

@@ -47,7 +47,7 @@ pub fn is_full_early<B: Body>(
 /// Whether the task with this index has a long name.
 fn is_long<B: Body>(points: &[Point<B>], at: usize) -> bool {
     match points.get(at) {
-        Some(point) => point.name.parts().len() >= LONG,
+        Some(point) => point.name.depth() >= LONG,
         None => false,
     }
 }

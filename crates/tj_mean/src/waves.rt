@@ -165,7 +165,7 @@ fn take_up<B: Body>(
     go_to_stop(alloc, &mut points[at], given, strict)?;
     let mut handed = hand_on(alloc, &mut points[at]);
     writes.append(&mut handed.writes)?;
-    if points[at].name.parts().len() <= round as usize {
+    if points[at].name.depth() <= round as usize {
         start_all(alloc, points, handed.children)?;
         return Ok(());
     }

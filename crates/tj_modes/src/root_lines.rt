@@ -13,7 +13,7 @@ pub fn root_line(alloc: Global, lines: &[TaskLine]) -> Result<Vec<u8>, Oom>
     ensures { IfOk result (λ line. line.items ≡ spec.root_line lines.now) }
 {
     for line in lines {
-        if line.name.parts().is_empty() {
+        if line.name.depth() == 0 {
             return ending_line(alloc, &line.ending);
         }
     }

@@ -42,19 +42,20 @@ pub fn value_named<B: Body>(
     ensures { let p = program_of B.places B.awaits B.left B.asks B.then rest.now.strict
         rest.now.root in IfOk result (IsOfName p rest.now.limit name.now) }
 {
-    let Some(c) = cell_named(rest, name) else {
+    let numbers = name.numbers(alloc)?;
+    let Some(c) = cell_named(rest, numbers.as_slice()) else {
         return Ok(None);
     };
     Ok(Some(became_at(alloc, rest, c)?))
 }
 
-/// The cell with this name.
-fn cell_named<B: Body>(rest: &RestWords<B>, name: &Name) -> Option<CellId>
+/// The cell whose name has these numbers.
+fn cell_named<B: Body>(rest: &RestWords<B>, name: &[u32]) -> Option<CellId>
     requires { (born : List Reference) × AreNamed rest.now.cells born }
     ensures { IsCellNamed rest.now.cells name.now result }
 {
     for c in 0..rest.drawn() {
-        if is_named(rest, CellId(c), name.parts()) {
+        if is_named(rest, CellId(c), name) {
             return Some(CellId(c));
         }
     }

@@ -20,10 +20,11 @@ pub fn report_text(alloc: Global, o: &Outcome) -> Result<Vec<u8>, Oom>
 {
     let mut text = Vec::new(alloc);
     let mut name = Vec::from_slice(alloc, b"0")?;
-    let mut shown: &[u32] = &[];
+    let mut shown = Vec::new(alloc);
     for line in o.lines.items() {
-        go_to(shown, line.name.parts(), &mut name)?;
-        shown = line.name.parts();
+        let numbers = line.name.numbers(alloc)?;
+        go_to(shown.as_slice(), numbers.as_slice(), &mut name)?;
+        shown = numbers;
         add_task(alloc, name.as_slice(), line, &mut text)?;
     }
     for links in o.cycles.items() {

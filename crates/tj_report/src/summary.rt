@@ -87,7 +87,7 @@ fn add_result(alloc: Global, lines: &[TaskLine], text: &mut Vec<u8>) -> Result<(
     ensures { IfOk result (λ _. text.new.items ≡ text.old.items ++ spec.root_result lines.now) }
 {
     for line in lines {
-        if line.name.parts().is_empty() {
+        if line.name.depth() == 0 {
             return add_done(alloc, &line.ending, text);
         }
     }

@@ -3,7 +3,8 @@ use crate::shown::{holds, reads};
 use std::alloc::Global;
 use std::cmp::Ordering;
 use std::process::Abort;
-use tj_base::{Name, name_cmp, path_before};
+use std::test::Fail;
+use tj_base::{Name, Oom, name_cmp, path_before};
 
 /// Numbers, and the name that is printed for them.
 const NAMES: &[(&[u32], &[u8])] = &[
@@ -15,15 +16,9 @@ const NAMES: &[(&[u32], &[u8])] = &[
 
 /// What a row shows, two names, whether the first stands before the second in the fork order and the
 /// second before the first, and how they compare.
-type Pair = (
-    &'static str,
-    &'static [u32],
-    &'static [u32],
-    (bool, bool),
-    Ordering,
-);
+type Pair<'n> = (&'n str, &'n [u32], &'n [u32], (bool, bool), Ordering);
 
-const PAIRS: &[Pair] = &[
+const PAIRS: &[Pair<'static>] = &[
     (
         "the later fork is before the earlier one",
         &[2],
@@ -82,6 +77,10 @@ const PAIRS: &[Pair] = &[
     ),
 ];
 
+/// How many numbers long names have. A piece of a name has 64 of them: these are the last numbers of
+/// pieces, and the first ones of the next.
+const LENGTHS: &[usize] = &[64, 65, 128, 129];
+
 pub(crate) fn name(rt: &impl Abort, alloc: Global, numbers: &[u32]) -> Name {
     let mut name = Name::root();
     for number in numbers {
@@ -91,6 +90,18 @@ pub(crate) fn name(rt: &impl Abort, alloc: Global, numbers: &[u32]) -> Name {
         name = child;
     }
     name
+}
+
+/// Whether the name has these numbers.
+pub(crate) fn is_name(name: &Name, numbers: &[u32]) -> bool {
+    let mut left = name.parts();
+    for number in numbers.iter().rev() {
+        match left.split_last() {
+            Some((last, before)) if last == *number => left = before,
+            _ => return false,
+        }
+    }
+    left.len() == 0
 }
 
 /// Asserts that the name of these numbers is printed so, behind what stands there.
@@ -108,7 +119,7 @@ fn is_printed(rt: &impl Abort, alloc: Global, numbers: &[u32], text: &[u8]) {
 }
 
 /// Asserts what the two orders say of a pair. The second name is compared as a copy.
-fn is_ordered(rt: &impl Abort, alloc: Global, pair: &Pair) {
+fn is_ordered(rt: &impl Abort, alloc: Global, pair: &Pair<'_>) {
     let first = name(rt, alloc, pair.1);
     let second = name(rt, alloc, pair.2);
     let Ok(copy) = second.copy(alloc) else {
@@ -130,4 +141,50 @@ fn names_are_printed_and_ordered(rt: HostRuntime) {
     for pair in PAIRS {
         is_ordered(&rt, rt.alloc(), pair);
     }
+}
+
+/// So many sevens, but a 2 at this place; and what is printed for the name of these numbers.
+fn sevens(alloc: Global, length: usize, place: usize) -> Result<(Vec<u32>, Vec<u8>), Oom> {
+    let mut numbers = Vec::new(alloc);
+    let mut text = Vec::from_slice(alloc, b"> 0")?;
+    for at in 0..length {
+        let two = at == place;
+        numbers.push(if two { 2 } else { 7 })?;
+        text.extend_from_slice(if two { b".2" } else { b".7" })?;
+    }
+    Ok((numbers, text))
+}
+
+/// Asserts what is told of a long name that has a 2 at this place: its text, its numbers, and how it
+/// stands beside itself, its maker and the name of sevens alone.
+fn is_long(rt: &impl Abort, alloc: Global, length: usize, place: usize) -> Result<(), Oom> {
+    let (own, text) = sevens(alloc, length, place)?;
+    let (maker, _) = sevens(alloc, length.saturating_sub(1), place)?;
+    let (other, _) = sevens(alloc, length, length)?;
+    let (own, maker, other) = (own.as_slice(), maker.as_slice(), other.as_slice());
+    is_printed(rt, alloc, own, text.as_slice());
+    let named = name(rt, alloc, own);
+    holds(rt, "its parts", is_name(&named, own));
+    holds(rt, "its numbers", named.numbers(alloc)?.as_slice() == own);
+    holds(rt, "another", named != name(rt, alloc, other));
+    let same = (false, false);
+    is_ordered(rt, alloc, &("itself", own, own, same, Ordering::Equal));
+    let later = (false, true);
+    is_ordered(rt, alloc, &("sevens", own, other, later, Ordering::Less));
+    is_ordered(
+        rt,
+        alloc,
+        &("its maker", own, maker, later, Ordering::Greater),
+    );
+    Ok(())
+}
+
+#[test]
+fn long_names_are_told_and_ordered(rt: HostRuntime) -> Result<(), Fail> {
+    for length in LENGTHS {
+        for place in [0, 63, length.saturating_sub(1)] {
+            is_long(&rt, rt.alloc(), *length, place)?;
+        }
+    }
+    Ok(())
 }

@@ -5,7 +5,7 @@ ghost use Rattle.tj_lex.specs.declared.token.Tok.{Tok};
 ghost use Rattle.tj_syntax.specs.Faults.{IsScript};
 ghost use Rattle.tj_syntax.specs.View as view;
 
-use crate::printed_names::name;
+use crate::printed_names::{is_name, name};
 use crate::shown::holds;
 use std::alloc::Global;
 use std::process::Abort;
@@ -137,7 +137,7 @@ const THINGS: &[Thing] = &[
 
 fn are_names(names: &[Name], numbers: &[&[u32]]) -> bool {
     for (name, numbers) in names.iter().zip(numbers) {
-        if name.parts() != *numbers {
+        if !is_name(name, numbers) {
             return false;
         }
     }
@@ -147,9 +147,9 @@ fn are_names(names: &[Name], numbers: &[&[u32]]) -> bool {
 fn is_end(ending: &Ending, end: &End) -> bool {
     match (ending, end) {
         (Ending::Done(Shown::Num(n)), End::Done(m)) => *n == *m,
-        (Ending::Waits(name), End::Waits(numbers)) => name.parts() == *numbers,
+        (Ending::Waits(name), End::Waits(numbers)) => is_name(name, numbers),
         (Ending::Failed(Cause::Kind), End::Kind) => true,
-        (Ending::Failed(Cause::Owner(name)), End::Owner(numbers)) => name.parts() == *numbers,
+        (Ending::Failed(Cause::Owner(name)), End::Owner(numbers)) => is_name(name, numbers),
         _ => false,
     }
 }
@@ -181,7 +181,7 @@ fn are_made(makers: &[Maker], made: &[Made]) -> bool {
 
 /// Whether the line tells of its task what the row does.
 fn is_told(line: &TraceLine, row: &Row, places: &ScriptPlaces) -> bool {
-    line.line.name.parts() == row.name
+    is_name(&line.line.name, row.name)
         && line.line.prints.items() == row.prints
         && is_end(&line.line.ending, &row.end)
         && are_names(line.line.owes.items(), row.owes)
@@ -197,7 +197,7 @@ fn is_found(rt: &impl Abort, alloc: Global, lines: &[TraceLine], thing: &Thing) 
     let name = name(rt, alloc, thing.0);
     holds(rt, "its line", line_of(lines, &name).is_some() == thing.1);
     let is_owner = match (owner_of(lines, &name), thing.2) {
-        (Some(line), Some(owner)) => line.line.name.parts() == owner,
+        (Some(line), Some(owner)) => is_name(&line.line.name, owner),
         (None, None) => true,
         _ => false,
     };

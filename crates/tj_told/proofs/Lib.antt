@@ -15,3 +15,4 @@ pub mod BrokenCells
 pub mod LoadedTags
 pub mod SeenValues
 pub mod EndedRounds
+pub mod NameSends

@@ -1,10 +1,20 @@
--- How the workers leave once their seat has taken in that of the observer, and that an observer may go to another
--- thread.
+-- How the workers leave once their seat has taken in that of the observer, and that an observer, and what it tells, may
+-- go to another thread.
 use Rattle.std.proofs.Common.{◌≡◌, ℕ, ◌+◌, ◌-◌, ◌*◌, ◌≤◌, ◌||◌, Bool, [], Option, refl, sym, ap, ◌∙◌, subst, arith}
 use denote.Param.Send.{IsSend, IsSync, sendable}
+use denote.Param.SendFields.{as_row_send, declared_send, variants_send}
+use denote.RattleType.{RattleType}
+use denote.Struct.Field.{row_field}
 use Rattle.std.proofs.Crossing.{crosses}
 use Rattle.std.specs.contracts.thread.Parker as parker
 use Rattle.tj_told.specs.contracts.looks.Watch as watch
+use Rattle.tj_base.proofs.items.Items.TheSendSync as items_sends
+use Rattle.tj_base.specs.contracts.items.Items as items
+use Rattle.tj_base.specs.contracts.value.Shown as shown
+use Rattle.tj_mean.specs.contracts.outcome.Link as link
+use Rattle.tj_told.specs.contracts.news.News as news
+use Rattle.tj_told.specs.contracts.telling.Telling as telling
+use Rattle.tj_told.proofs.NameSends.{names_send}
 use Rattle.tj_log.specs.Shown.{SeatShown}
 use Rattle.tj_body.specs.Programs.{Program}
 use Rattle.tj_record.specs.declared.record.Rec.{Rec}
@@ -73,4 +83,31 @@ pub bell_sync : IsSync parker.the_row
 bell_sync = search (sendable, crosses) depth 20
 
 pub watch_send : IsSend watch.the_row
-watch_send = search (sendable, crosses) depth 40
+watch_send = search (sendable, crosses, names_send) depth 40
+
+-- a part of a cycle, a value, and all that is told may go to another thread
+link_send : IsSend link.the_row
+link_send = search (sendable, crosses, names_send) depth 20
+
+shown_send : IsSend shown.the_row
+shown_send = search (sendable, crosses, names_send) depth 20
+
+links_send : IsSend (items.the_row link.the_row)
+links_send = items_sends.the_send link.the_row link_send
+
+news_send : IsSend news.the_row
+news_send = variants_send news.enum (
+  (as_row_send (row_field _) links_send, tt),
+  (
+    (as_row_send (row_field _) names_send, tt),
+    ((as_row_send (row_field _) names_send, (as_row_send (row_field _) shown_send, tt)), tt),
+  ),
+)
+
+told_send : IsSend (items.the_row news.the_row)
+told_send = items_sends.the_send news.the_row news_send
+
+-- a listener that may go to another thread may go with what it was told
+pub telling_send : (T : RattleType) → IsSend T → IsSend (telling.the_row T)
+telling_send T t = declared_send (telling.the_type T)
+    (as_row_send (row_field _) t, (as_row_send (row_field _) told_send, (search (sendable, crosses) depth 20, tt)))

@@ -5,5 +5,5 @@ use Rattle.tj_base.proofs.order.path_before.Goals as goal
 
 pub returns-clause-order : goal.returns-clause-order
 returns-clause-order c =
-    before_tells c.args.a.now c.args.b.now c.numbers_before.result
-    (c.numbers_before.ensures ∙ (λ i. before (c.parts.ensures i) (c.parts-2.ensures i)))
+    before_tells c.args.a.now c.args.b.now c.is_before.result
+    (c.is_before.ensures ∙ (λ i. before (c.parts.ensures i) (c.parts-2.ensures i)))

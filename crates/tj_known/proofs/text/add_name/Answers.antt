@@ -6,18 +6,18 @@ use Rattle.tj_base.specs.Texts.{name_text, parts_text}
 use Rattle.tj_known.proofs.NamePrefixes.{name_more, parted}
 use Rattle.tj_known.proofs.text.add_name.Goals as goal
 
-pub returns-in_ok-extend_from_slice-in-Some : goal.returns-in_ok-extend_from_slice-in-Some
-returns-in_ok-extend_from_slice-in-Some c =
+pub returns-in-Some : goal.returns-in-Some
+returns-in-Some c =
     IfOk-equal c.add_numbers.result c.add_numbers.new.text.items
     (c.extend_from_slice.new.self.items ++ parts_text c.in-Some.rest.now)
     (c.args.text.now.items ++ name_text c.args.name.now) c.add_numbers.ensures
     (ap (λ t. t ++ parts_text c.in-Some.rest.now)
     (c.in_ok-extend_from_slice-in-Some.ensures.items
-    ∙ ap (λ t. c.args.text.now.items ++ t) (c.as_slice.ensures.value ∙ c.requires))
-    ∙ (append_assoc c.args.text.now.items (name_text c.args.last.now.name) (parts_text c.in-Some.rest.now)
+    ∙ ap (λ t. c.args.text.now.items ++ t) (c.as_slice-in-Some.ensures.value ∙ c.requires))
+    ∙ (append_assoc c.args.text.now.items (name_text c.args.last.now.numbers.items) (parts_text c.in-Some.rest.now)
     ∙ ap (λ t. c.args.text.now.items ++ t)
-    (name_more c.args.last.now.name c.args.name.now c.in-Some.rest.now
-    (parted c.args.name.now c.args.last.now.name c.parts.result.now c.parts-2.result.now c.in-Some.rest.now
-    c.parts.ensures c.parts-2.ensures
-    (strip_prefix_is Decides-eqb c.parts.result.now c.parts-2.result.now (Some c.in-Some.rest)
+    (name_more c.args.last.now.numbers.items c.args.name.now c.in-Some.rest.now
+    (parted c.args.name.now c.args.last.now.numbers.items c.as_slice.result.now c.as_slice-2.result.now
+    c.in-Some.rest.now (c.as_slice.ensures.value ∙ c.in_ok-numbers.ensures) c.as_slice-2.ensures.value
+    (strip_prefix_is Decides-eqb c.as_slice.result.now c.as_slice-2.result.now (Some c.in-Some.rest)
     c.in-Some.ensures.cases)))))

@@ -1,15 +1,15 @@
-use Rattle.std.proofs.Common.{ℕ, List, length, ap, refl, ◌∙◌, arith}
+use Rattle.std.proofs.Common.{refl, ◌∙◌, arith}
 use Rattle.tj_body.specs.Programs.{rules_of}
 use Rattle.tj_mean.specs.Inner.Assignments.{assignment_in}
 use Rattle.tj_mean.proofs.TakenTasks.{children_begin, children_kept, children_left_out}
 use Rattle.tj_mean.proofs.waves.take_up.Goals as goal
 
-pub returns-then-parts-round : goal.returns-then-parts-round
-returns-then-parts-round g c =
+pub returns-then-depth-round : goal.returns-then-depth-round
+returns-then-depth-round g c =
     let b = g.B.Body in
     let rules = rules_of b.places b.awaits b.left b.asks b.then c.args.strict in
-    let l = ap (λ (x : List ℕ). length x) c.parts.ensures in
-    let f = c.if-parts-round.true in
+    let l = c.depth.ensures in
+    let f = c.if-depth-round.true in
     children_begin
     rules (assignment_in c.args.given.now) c.args.cells c.args.round c.args.at c.args.points.now.items
     c.requires.there c.index_mut.result.now c.index_mut.ensures.value c.go_to_stop.new.p
@@ -24,8 +24,8 @@ pub returns-then-len-cells : goal.returns-then-len-cells
 returns-then-len-cells g c =
     let b = g.B.Body in
     let rules = rules_of b.places b.awaits b.left b.asks b.then c.args.strict in
-    let l = ap (λ (x : List ℕ). length x) c.parts.ensures in
-    let f = c.if-parts-round.false in
+    let l = c.depth.ensures in
+    let f = c.if-depth-round.false in
     let m = c.if-len-cells.true in
     let e = c.len.ensures ∙ c.args.later.now.ok.0 in
     children_left_out
@@ -41,8 +41,8 @@ pub returns : goal.returns
 returns g c =
     let b = g.B.Body in
     let rules = rules_of b.places b.awaits b.left b.asks b.then c.args.strict in
-    let l = ap (λ (x : List ℕ). length x) c.parts.ensures in
-    let f = c.if-parts-round.false in
+    let l = c.depth.ensures in
+    let f = c.if-depth-round.false in
     children_kept
     rules (assignment_in c.args.given.now) c.args.cells c.args.round c.args.at c.args.points.now.items
     c.requires.there c.index_mut.result.now c.index_mut.ensures.value c.go_to_stop.new.p

@@ -7,7 +7,7 @@ use Rattle.tj_report.proofs.report.report_text.Given as goal
 -- the lines so far, and the printed name of the last task
 abbrev pub invariant-loop-line : goal.invariant-loop-line
 invariant-loop-line l =
-    (l.text.items ≡ flat_map task_lines (take l.line-index l.o.lines)) × (l.name.items ≡ name_text l.shown)
+    (l.text.items ≡ flat_map task_lines (take l.line-index l.o.lines)) × (l.name.items ≡ name_text l.shown.items)
 
 abbrev pub invariant-loop-links : goal.invariant-loop-links
 invariant-loop-links l =

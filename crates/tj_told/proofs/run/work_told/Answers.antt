@@ -8,10 +8,9 @@ use Rattle.std.proofs.Crossing.{send}
 use Rattle.tj_body.specs.Programs.{program_of}
 use Rattle.tj_words.specs.contracts.view.View as view
 use Rattle.tj_run.proofs.Seats.ThreadSends.{laid_sync, seven_send, slot_send}
-use Rattle.tj_told.proofs.telling.Telling.TheSendSync as telling
 use Rattle.tj_told.proofs.KeptNews.{seen_own, seen_taken, stopped_own, stopped_taken}
 use Rattle.tj_told.specs.SeenNews.{AreSeenBy, HasStopped}
-use Rattle.tj_told.proofs.TakenSeats.{bell_sync, either_left, leaves_taken, watch_send}
+use Rattle.tj_told.proofs.TakenSeats.{bell_sync, either_left, leaves_taken, telling_send, watch_send}
 use Rattle.tj_told.proofs.run.work_told.Goals as goal
 
 pub join-watched-requires-send-F : goal.join-watched-requires-send-F
@@ -20,7 +19,7 @@ join-watched-requires-send-F g c κs within =
     let s = param_send 1 _ (arg_send ty_ptr no _ (seven_send [] _ _ _ _ _ _ _ (shr_send (named 0) _ _ r) send
     (shr_send (named 1) _ _ (laid_sync (param 0 g.row.B) g.B.Body b))
     (seat.the_send _ (view.the_row (param 0 g.row.B)) (slot_send (param 0 g.row.B) b)) watch_send
-    (shr_send (named 3) _ _ bell_sync) (telling.the_send _ t))) in
+    (shr_send (named 3) _ _ bell_sync) (telling_send _ t))) in
     record { owned = s.owned; leaving = s.leaving }
 
 pub returns-clause-left : goal.returns-clause-left

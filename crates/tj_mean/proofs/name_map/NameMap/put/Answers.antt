@@ -1,4 +1,4 @@
-use Rattle.std.proofs.Common.{Some, length, ap, ◌∙◌}
+use Rattle.std.proofs.Common.{Some, ap, ◌∙◌}
 use Rattle.std.specs.BTreeMap.{get, is_at}
 use Rattle.std.specs.Cmp.Lexicographic.{slice_cmp}
 use Rattle.std.specs.Map.{lookup}
@@ -11,8 +11,8 @@ use Rattle.tj_mean.proofs.name_map.NameMap.put.Goals.{in-Some, in-None}
 pub returns : goal.returns
 returns g c =
     let old = c.args.self.now.lengths in
-    let n = length c.parts.result.now in
-    changed_at old c.insert-2.new.self c.insert.new.self n c.args.name (Some c.args.value) (ap length c.parts.ensures)
+    let n = c.depth-length.result in
+    changed_at old c.insert-2.new.self c.insert.new.self n c.args.name (Some c.args.value) c.depth-length.ensures
     (put_again n c.insert.new.self old c.remove.new.self c.insert-2.new.self
     c.remove.ensures.updates.0 c.in_ok-insert-2.ensures.updates.0)
     (row_at c.match-remove.row c.insert.new.self c.args.name (Some c.args.value) c.in_ok-insert.ensures.updates.0
