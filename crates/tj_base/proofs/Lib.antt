@@ -3,9 +3,9 @@ pub mod CycleLists
 pub mod CycleWays
 pub mod CyclesOn
 mod Differences
-mod ListOrders
+mod LeapsAndSteps
+pub mod MapOrders
 pub mod Orders
-mod NameWalks
 pub mod PartTexts
 pub mod Puts
 pub mod Ways

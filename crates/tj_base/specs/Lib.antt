@@ -1,6 +1,8 @@
 pub mod Cycles
 pub mod Differences
 pub mod ForkOrder
-pub mod Pieces
+pub mod Leaps
+pub mod MapOrder
+pub mod MapOrderTies
 pub mod Puts
 pub mod Texts

@@ -4,12 +4,11 @@
 
 mod cause;
 mod cell;
+mod climbs;
 mod items;
 mod memory;
 mod name;
 mod order;
-mod parts;
-mod pieces;
 mod step_count;
 mod text;
 mod value;
@@ -20,7 +19,6 @@ pub use items::{ByteList, CellList, Items, NameList, NumList, PlaceList};
 pub use memory::Oom;
 pub use name::Name;
 pub use order::{name_cmp, path_before};
-pub use parts::Parts;
 pub use step_count::Steps;
 pub use text::{add_count, add_number, add_signed};
 pub use value::{Pay, Shown};

@@ -1,58 +1,87 @@
 //! Names of cells. A task counts the things that it makes, tasks and promises together, from 1.
 //! The k-th is named by its maker's name and k; the root's name is the empty list.
-ghost use Rattle.std.specs.Prelude.{ℕ, ◌≡◌, List, [], ◌∷◌, ◌++◌, IfOk, OnErr, nat_eq, Some, length, refl};
-ghost use Rattle.std.specs.Cmp.Lexicographic.{slice_cmp, pointwise, texts_ties, texts_po, nat_list_cmp_total, nat_list_eq_equiv};
-ghost use Rattle.std.specs.Cmp.{partial_equiv_from_equiv};
-ghost use Rattle.std.specs.Ordering.{nat_cmp};
+ghost use Rattle.std.specs.Prelude.{ℕ, ◌≡◌, List, [], ◌∷◌, ◌++◌, IfOk, OnErr, IfNone, IfSome, nat_eq, Some, length, refl};
+ghost use Rattle.std.specs.Cmp.Lexicographic.{pointwise, nat_list_eq_equiv, on_texts};
+ghost use Rattle.std.specs.Cmp.{partial_equiv_from_equiv, partial_order_from_agreeing_total};
+ghost use Rattle.tj_base.specs.MapOrder.{key, map_order};
+ghost use Rattle.tj_base.specs.MapOrderTies.{keys_tie};
 ghost use Rattle.tj_base.specs.Texts.{name_text, parts_text};
 
+use crate::climbs::{LEAP, is_same, leap_to, map_order, put_row};
 use crate::memory::Oom;
-use crate::parts::Parts;
-use crate::pieces::{PIECE, first_piece, next_piece};
 use crate::text::add_count;
 use std::alloc::Global;
 use std::cmp::Ordering;
+use std::fmt;
 use std::marker::Model;
 use std::sync::Arc;
 
 /// A cell's name: the numbers from the root on.
-// A name has its last numbers itself, and those before them in common with its maker: so it takes
-// little memory, however long it is. Equal names that were copied have all in common.
+// It is kept as its maker's name, which it shares with what else the maker made, and a number. The
+// list of its numbers is made only where somebody asks for it. A name of 64 numbers, of 128 and so on
+// has its last 64 in a row, too, by which long names are compared.
 #[cycle(name)]
-#[derive(Debug, Drop)]
 pub struct Name {
     // None stands for the root, which takes no memory.
-    last: Option<Arc<Piece, Global>>,
+    pub(crate) made: Option<Arc<Made, Global>>,
 }
 
-/// The last numbers of a name.
+/// How something that a task made is named.
 #[cycle(name)]
-#[derive(Debug, Drop)]
-pub struct Piece {
-    /// The name that ends before these numbers.
-    pub before: Name,
-    pub numbers: Vec<u32>,
+#[derive(Drop)]
+pub struct Made {
+    pub maker: Name,
+    pub number: u32,
     /// How many numbers the name has.
     pub depth: usize,
+    /// Where that is a multiple of `LEAP`: the last `LEAP` of them, and the name before these.
+    pub leap: Option<Box<Leap, Global>>,
+}
+
+/// The last numbers of a name in a row, and the name before them.
+#[cycle(name)]
+#[derive(Drop)]
+pub struct Leap {
+    pub before: Name,
+    pub numbers: Vec<u32>,
 }
 
 impl Model for Name {
-    ghost use Rattle.std.specs.Prelude.{ℕ, ◌++◌, List, length, IfSome};
+    ghost use Rattle.std.specs.Prelude.{ℕ, ◌≡◌, ◌++◌, ◌∷◌, List, length, suc, IfSome};
     ghost use Rattle.std.specs.Prelude.{[]};
     ghost use Rattle.std.specs.Option.{option_map_or};
-    ghost use Rattle.tj_base.specs.Pieces.{IsPiece};
     ghost use Rattle.std.proofs.Common.{arith, length-append};
+    ghost use Rattle.tj_base.specs.Leaps.{IsLeap};
 
     ghost Value = { List ℕ };
 
-    ghost view = { λ n. option_map_or (λ piece. piece.value.before ++ piece.value.numbers.items) n.last [] };
+    ghost view = { λ n. option_map_or (λ made. made.value.maker ++ made.value.number ∷ []) n.made [] };
 
-    ghost invariant = { λ n. IfSome n.last (λ piece.
-        IsPiece piece.value.before piece.value.numbers.items piece.value.depth) };
+    ghost invariant = { λ n. IfSome n.made (λ made.
+        (made.value.depth ≡ suc (length made.value.maker))
+        × IfSome made.value.leap (λ leap. IsLeap (made.value.maker ++ made.value.number ∷ [])
+        leap.value.before leap.value.numbers.items)) };
 
     ghost size = { length };
 
     ghost size_decreases = { λ a h. Prim.grind (arith, length-append) };
+}
+
+// A loop, so that a long name takes no stack.
+impl Drop for Name {
+    #[cycle(given_back)]
+    fn drop(mut self) {
+        loop {
+            let Name { made } = self;
+            let Some(made) = made else {
+                return;
+            };
+            let Some(Made { maker, .. }) = Arc::into_inner(made) else {
+                return;
+            };
+            self = maker;
+        }
+    }
 }
 
 impl Name {
@@ -61,7 +90,7 @@ impl Name {
         // The root's name is the empty list.
         ensures { result ≡ [] }
     {
-        Name { last: None }
+        Name { made: None }
     }
 
     /// The name of the k-th thing that this task makes.
@@ -69,13 +98,35 @@ impl Name {
         // The name is that of the maker with k at its end.
         ensures { IfOk result (λ name. name ≡ self.now ++ k ∷ []) }
     {
-        let piece = match &self.last {
-            Some(piece) => next_piece(self, piece, alloc, k)?,
-            None => first_piece(self, alloc, k)?,
+        let Some(depth) = self.depth().checked_add(1) else {
+            return Err(Oom);
+        };
+        let leap = if depth % LEAP == 0 {
+            leap_to(self, alloc, k)?
+        } else {
+            None
+        };
+        let made = Made {
+            maker: self.copy(alloc)?,
+            number: k,
+            depth,
+            leap,
         };
         Ok(Name {
-            last: Some(Arc::new(alloc, piece)?),
+            made: Some(Arc::new(alloc, made)?),
         })
+    }
+
+    /// The name that goes on from this one with these numbers.
+    pub fn descendant(&self, alloc: Global, numbers: &[u32]) -> Result<Name, Oom>
+        // It has the numbers of this name, and then these.
+        ensures { IfOk result (λ name. name ≡ self.now ++ numbers.now) }
+    {
+        let mut name = self.copy(alloc)?;
+        for k in numbers {
+            name = name.child(alloc, *k)?;
+        }
+        Ok(name)
     }
 
     /// An equal name.
@@ -83,10 +134,10 @@ impl Name {
         // The copy equals the name.
         ensures { IfOk result (λ name. name ≡ self.now) }
     {
-        match &self.last {
+        match &self.made {
             None => Ok(Name::root()),
-            Some(piece) => Ok(Name {
-                last: Some(Arc::try_clone(piece)?),
+            Some(made) => Ok(Name {
+                made: Some(Arc::try_clone(made)?),
             }),
         }
     }
@@ -97,42 +148,43 @@ impl Name {
         // It is the length of the name.
         ensures { result ≡ length self.now }
     {
-        match &self.last {
+        match &self.made {
             None => 0,
-            Some(piece) => piece.depth,
+            Some(made) => made.depth,
         }
     }
 
-    /// The numbers of the name, from the root on, looked at where they stand.
-    #[inline(always)]
-    pub fn parts(&self) -> Parts<'_>
-        // It gives the numbers of the name.
-        ensures { result ≡ self.now }
+    /// The last number, and the name of the task that made what is named.
+    pub fn split_last(&self) -> Option<(u32, &Name)>
+        // None comes exactly for the root.
+        ensures none { IfNone result (self.now ≡ []) }
+        // Else the name is that of the maker with the number at its end.
+        ensures some { IfSome result (λ found. self.now ≡ found.1.now ++ found.0 ∷ []) }
     {
-        match &self.last {
-            None => Parts::none(),
-            Some(piece) => Parts::behind(&piece.before, piece.numbers.as_slice()),
+        match &self.made {
+            None => None,
+            Some(made) => Some((made.number, &made.maker)),
         }
     }
 
-    /// The numbers of the name, from the root on, in a list of their own.
+    /// The numbers of the name, from the root on.
     pub fn numbers(&self, alloc: Global) -> Result<Vec<u32>, Oom>
         // It gives the numbers of the name.
         ensures { IfOk result (λ numbers. numbers.items ≡ self.now) }
     {
-        let mut numbers = Vec::with_capacity(alloc, self.depth())?;
-        self.numbers_into(&mut numbers)?;
-        Ok(numbers)
-    }
-
-    fn numbers_into(&self, numbers: &mut Vec<u32>) -> Result<(), Oom>
-        ensures { IfOk result (λ _. numbers.new.items ≡ numbers.old.items ++ self.now) }
-    {
-        if let Some(piece) = &self.last {
-            piece.before.numbers_into(numbers)?;
-            numbers.extend_from_slice(piece.numbers.as_slice())?;
+        let mut numbers = vec![in alloc; 0; self.depth()]?;
+        let mut at = self;
+        while let Some(made) = &at.made {
+            if let Some(leap) = &made.leap {
+                let row = leap.numbers.as_slice();
+                put_row(numbers.as_mut_slice(), leap.before.depth(), row);
+                at = &leap.before;
+            } else {
+                put_row(numbers.as_mut_slice(), made.maker.depth(), &[made.number]);
+                at = &made.maker;
+            }
         }
-        Ok(())
+        Ok(numbers)
     }
 
     /// Adds the printed name, as `0` for the root and `0.3.1` for a name of two numbers.
@@ -142,19 +194,10 @@ impl Name {
         // After an error the text is as before.
         ensures err { OnErr result (out.new.items ≡ out.old.items) }
     {
+        let numbers = self.numbers(alloc)?;
         let mut text = Vec::from_slice(alloc, b"0")?;
-        self.parts_into(&mut text)?;
+        add_parts(numbers.as_slice(), &mut text)?;
         out.extend_from_slice(text.as_slice())?;
-        Ok(())
-    }
-
-    fn parts_into(&self, text: &mut Vec<u8>) -> Result<(), Oom>
-        ensures { IfOk result (λ _. text.new.items ≡ text.old.items ++ parts_text self.now) }
-    {
-        if let Some(piece) = &self.last {
-            piece.before.parts_into(text)?;
-            add_parts(piece.numbers.as_slice(), text)?;
-        }
         Ok(())
     }
 }
@@ -169,34 +212,16 @@ fn add_parts(numbers: &[u32], text: &mut Vec<u8>) -> Result<(), Oom>
     Ok(())
 }
 
-/// Whether the names are the same. Their last numbers are looked at first: names of one length that
-/// aren't the same mostly differ there.
-#[inline(always)]
-fn is_same(a: &Name, b: &Name) -> bool
-    ensures { result ≡ pointwise nat_eq a.now b.now }
-{
-    let (Some(p), Some(q)) = (&a.last, &b.last) else {
-        return a.depth() == b.depth();
-    };
-    if p.before.depth() != q.before.depth() {
-        return false;
-    }
-    if p.numbers.as_slice().last() != q.numbers.as_slice().last() {
-        return false;
-    }
-    a.parts().same(&b.parts())
-}
-
-/// The name order.
-#[inline(always)]
-pub fn compared(a: &Name, b: &Name) -> Ordering
-    ensures { result ≡ slice_cmp nat_cmp a.now b.now }
-{
-    match (&a.last, &b.last) {
-        (Some(p), Some(q)) if p.depth <= PIECE && q.depth <= PIECE => {
-            p.numbers.as_slice().cmp(q.numbers.as_slice())
+impl fmt::Debug for Name {
+    // Climbed from the last number on, as the list would take memory.
+    fn fmt<W: fmt::Write>(&self, f: &mut fmt::Formatter<W>) -> fmt::Result {
+        f.write_str("Name, from the last number on:")?;
+        let mut at = self;
+        while let Some(made) = &at.made {
+            write!(f, " {}", made.number)?;
+            at = &made.maker;
         }
-        _ => a.parts().compare(&b.parts()),
+        Ok(())
     }
 }
 
@@ -215,25 +240,27 @@ impl Eq for Name {
 }
 
 impl PartialOrd for Name {
-    ghost partial_cmp = { λ a b. Some (slice_cmp nat_cmp a b) };
+    ghost partial_cmp = { λ a b. Some (map_order a b) };
 
-    ghost laws = { texts_po };
+    ghost laws = { partial_order_from_agreeing_total map_order (on_texts key) (λ _ _. refl) keys_tie };
 
     fn partial_cmp(&self, other: &Name) -> Option<Ordering> {
         Some(self.cmp(other))
     }
 }
 
+// The order of a map's keys, by length and then from the last number on: two names mostly differ
+// there. Reports are in the order of `name_cmp`.
 impl Ord for Name {
-    ghost cmp = { slice_cmp nat_cmp };
+    ghost cmp = { map_order };
 
-    ghost total = { nat_list_cmp_total };
+    ghost total = { on_texts key };
 
     ghost matches_partial_cmp = { λ _ _. refl };
 
-    ghost matches_eq = { texts_ties };
+    ghost matches_eq = { keys_tie };
 
     fn cmp(&self, other: &Name) -> Ordering {
-        compared(self, other)
+        map_order(self, other)
     }
 }

@@ -4,7 +4,8 @@ ghost use Rattle.std.specs.Cmp.Lexicographic.{slice_cmp};
 ghost use Rattle.std.specs.Ordering.{nat_cmp};
 ghost use Rattle.tj_base.specs.ForkOrder.{before, IsBefore};
 
-use crate::name::{Name, compared};
+use crate::climbs::first_difference;
+use crate::name::Name;
 use std::cmp::Ordering;
 
 /// The name order: a name before all that begin with it, else the lower number first.
@@ -12,7 +13,10 @@ pub fn name_cmp(a: &Name, b: &Name) -> Ordering
     // The answer is the order of the names as lists: a prefix first, else the lower number first.
     ensures { result ≡ slice_cmp nat_cmp a.now b.now }
 {
-    compared(a, b)
+    match first_difference(a, b) {
+        Some((x, y)) => x.cmp(&y),
+        None => a.depth().cmp(&b.depth()),
+    }
 }
 
 /// Whether task `a` is before task `b` in the fork order, in which each fork puts the child
@@ -25,5 +29,8 @@ pub fn path_before(a: &Name, b: &Name) -> bool
     // stands in a branch that was forked later.
     ensures order { IsTrue result ↔ IsBefore a.now b.now }
 {
-    a.parts().is_before(&b.parts())
+    match first_difference(a, b) {
+        Some((x, y)) => y < x,
+        None => a.depth() < b.depth(),
+    }
 }

@@ -13,7 +13,7 @@ use crate::chains::{Way, jumps_of};
 use crate::echoes::{echoed_by, origin};
 use crate::lookups::{Lookups, Members};
 use crate::members::is_member;
-use crate::searches::line_named;
+use crate::searches::line_of;
 use std::alloc::Global;
 use tj_base::{Name, Oom};
 use tj_command::count_text;
@@ -138,8 +138,8 @@ fn forker<'t>(lookups: &Lookups<'t>, name: &Name) -> Option<&'t TraceLine>
     ensures { option_map (λ line. line.now) result
         ≡ spec.forker lookups.now.lines.now name.now }
 {
-    let (_, maker) = name.parts().split_last()?;
-    drawn_only(lookups.lines, line_named(lookups, &maker))
+    let (_, maker) = name.split_last()?;
+    drawn_only(lookups.lines, line_of(lookups, maker))
 }
 
 /// The edge from the task that forked another.

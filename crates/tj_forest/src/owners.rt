@@ -123,5 +123,5 @@ pub fn enter(alloc: Global, numbers: &mut Numbers, number: usize, cell: &Name) -
         ≡ cond (same q cell.now) (Some number) (number_in numbers.old q)) }
 {
     let copy = cell.copy(alloc)?;
-    numbers.put(alloc, copy, number)
+    numbers.put(copy, number)
 }

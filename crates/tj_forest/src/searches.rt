@@ -14,28 +14,28 @@ ghost use Rattle.tj_findings.specs.Went as ways;
 
 use crate::lookups::Lookups;
 use std::cmp::Ordering;
-use tj_base::{Name, Parts};
+use tj_base::{Name, name_cmp};
 use tj_trace::{Maker, TraceLine};
 
-/// How the name of the task with this line compares to these numbers.
-fn compared(line: &TraceLine, name: &Parts<'_>) -> Ordering
+/// How the name of the task with this line compares to this one.
+fn compared(line: &TraceLine, name: &Name) -> Ordering
     ensures { result ≡ slice_cmp nat_cmp line.now.line.name name.now }
 {
-    line.line.name.parts().compare(name)
+    name_cmp(&line.line.name, name)
 }
 
-/// Whether the first line is that of the task with a name of these numbers, as it is of the root.
-fn is_first(lines: &[TraceLine], name: &Parts<'_>) -> bool
+/// Whether the first line is that of the task with this name, as it is of the root.
+fn is_first(lines: &[TraceLine], name: &Name) -> bool
     ensures { IsTrue result → IsNumberOf lines.now (Some 0) (spec.line_of lines.now name.now) }
 {
     match lines {
-        [first, ..] => first.line.name.parts().same(name),
+        [first, ..] => first.line.name == *name,
         [] => false,
     }
 }
 
-/// The number of the line of the task with a name of these numbers.
-fn number_of(lines: &[TraceLine], name: &Parts<'_>) -> Option<usize>
+/// The number of the line of the task with this name.
+fn number_of(lines: &[TraceLine], name: &Name) -> Option<usize>
     requires { Ascend (names_of lines.now) }
     ensures { IsNumberOf lines.now result (spec.line_of lines.now name.now) }
 {
@@ -56,23 +56,14 @@ pub fn line_with(lines: &[TraceLine], number: Option<usize>) -> Option<&TraceLin
     lines.get(number?)
 }
 
-/// The line of the task with a name of these numbers.
-#[tactic(auto, using(crate::proofs::LineNumbers::at_number))]
-pub fn line_named<'t>(lookups: &Lookups<'t>, name: &Parts<'_>) -> Option<&'t TraceLine>
-    requires lookups { IsSearchable lookups.now }
-    ensures { option_map (λ line. line.now) result
-        ≡ spec.line_of lookups.now.lines.now name.now }
-{
-    line_with(lookups.lines, number_of(lookups.lines, name))
-}
-
 /// The line of the task with this name.
+#[tactic(auto, using(crate::proofs::LineNumbers::at_number))]
 pub fn line_of<'t>(lookups: &Lookups<'t>, name: &Name) -> Option<&'t TraceLine>
     requires lookups { IsSearchable lookups.now }
     ensures { option_map (λ line. line.now) result
         ≡ spec.line_of lookups.now.lines.now name.now }
 {
-    line_named(lookups, &name.parts())
+    line_with(lookups.lines, number_of(lookups.lines, name))
 }
 
 /// The number of the line of the task that owned the cell where it stopped.
@@ -110,7 +101,7 @@ pub fn breaker(lookups: &Lookups, cell: &Name) -> Option<usize>
     ensures { IsNumberOf lookups.now.lines.now result
         (echoes.breaker lookups.now.lines.now cell.now) }
 {
-    owner_number(lookups, cell).or(number_of(lookups.lines, &cell.parts()))
+    owner_number(lookups, cell).or(number_of(lookups.lines, cell))
 }
 
 /// The statement that made the cell with this name.
@@ -118,8 +109,8 @@ pub fn maker_of(lookups: &Lookups, name: &Name) -> Option<Maker>
     requires lookups { IsSearchable lookups.now }
     ensures { result ≡ spec.maker_of lookups.now.lines.now name.now }
 {
-    let (k, maker) = name.parts().split_last()?;
-    made_by(line_named(lookups, &maker), k)
+    let (k, maker) = name.split_last()?;
+    made_by(line_of(lookups, maker), k)
 }
 
 /// The statement that made the k-th thing of the task, if it has a line.

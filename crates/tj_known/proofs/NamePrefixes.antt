@@ -1,13 +1,16 @@
--- The text of a name goes on from that of a name with which it begins.
-use Rattle.std.proofs.Common.{◌≡◌, ◌∷◌, ◌++◌, sym, ap, ◌∙◌}
+-- The text of a name goes on from that of its maker.
+use Rattle.std.proofs.Common.{ℕ, List, ◌≡◌, [], ◌∷◌, ◌++◌, ap, append-nil, append_assoc, sym, ◌∙◌}
 use Rattle.tj_base.proofs.PartTexts.{parts_text-append}
 use Rattle.tj_base.specs.ForkOrder.{Name}
-use Rattle.tj_base.specs.Texts.{name_text, parts_text}
+use Rattle.tj_base.specs.Texts.{name_text, part_text, parts_text}
 
--- the text of the beginning, and then that of the numbers that follow
-pub name_more : (p s r : Name) → s ≡ p ++ r → name_text p ++ parts_text r ≡ name_text s
-name_more p s r e = sym (ap name_text e ∙ ap (λ t. 48 ∷ t) (parts_text-append p r))
+-- a number more
+pub name_more : (maker name : Name) (k : ℕ) → name ≡ maker ++ k ∷ [] → name_text name ≡ name_text maker ++ part_text k
+name_more maker name k e = ap name_text e ∙ ap (λ z. 48 ∷ z) (parts_text-append maker (k ∷ [])
+    ∙ ap (λ z. parts_text maker ++ z) (append-nil (part_text k)))
 
--- what is read of two names says how one goes on from the other
-pub parted : (s p a b r : Name) → a ≡ s → b ≡ p → a ≡ b ++ r → s ≡ p ++ r
-parted s p a b r first second e = sym first ∙ (e ∙ ap (λ x. x ++ r) second)
+-- behind a text
+pub name_more_behind : (before : List ℕ) (maker name : Name) (k : ℕ) → name ≡ maker ++ k ∷ []
+    → (before ++ name_text maker) ++ part_text k ≡ before ++ name_text name
+name_more_behind before maker name k e = append_assoc before (name_text maker) (part_text k)
+    ∙ ap (λ z. before ++ z) (sym (name_more maker name k e))

@@ -3,4 +3,3 @@ pub mod Learners
 pub mod Marks
 pub mod Steps
 pub mod Monitors
-pub mod Printed

@@ -1,7 +1,7 @@
 //! The text of what is told of joins: a line for each, and a line of counts.
-ghost use Rattle.std.specs.Prelude.{◌≡◌, ◌++◌, IfOk};
-ghost use Rattle.tj_base.specs.Texts.{name_text, parts_text};
-ghost use Rattle.tj_known.specs.Inner.Printed.{IsPrinted, IsPrintedOf};
+ghost use Rattle.std.specs.List.{flat_map};
+ghost use Rattle.std.specs.Prelude.{[], ◌≡◌, ◌++◌, IfOk};
+ghost use Rattle.tj_base.specs.Texts.{name_text};
 ghost use Rattle.tj_known.specs.KnownTexts as spec;
 
 use crate::known::{How, KnownLine, KnownList};
@@ -16,92 +16,84 @@ struct Counts {
     against: usize,
 }
 
-/// A name's numbers with its text.
-#[derive(Drop)]
-struct Printed {
-    numbers: Vec<u32>,
-    text: Vec<u8>,
-}
-
 /// A line for each join, and how many there are of each kind.
-// A long name that begins with the one printed last is copied so far.
+// The text of a name goes on from that of the name printed last, where that is its maker.
 pub fn known_text(alloc: Global, list: &KnownList) -> Result<Vec<u8>, Oom>
     // The text is a line for each join, and a line with how many there are, how many are known,
     // along and against.
     ensures { IfOk result (λ text. text.items ≡ spec.known_text list.now) }
 {
-    let mut last = print_name(alloc, &Name::root())?;
     let mut text = Vec::new(alloc);
-    for line in list.items() {
-        last = print_after(alloc, last, &line.by)?;
-        add_line(alloc, line, &last, &mut text)?;
-    }
+    add_lines(alloc, &Name::root(), list.items(), &mut text)?;
     add_counts(list.items(), &mut text)?;
     Ok(text)
 }
 
-/// The name with its text.
-fn print_name(alloc: Global, name: &Name) -> Result<Printed, Oom>
-    ensures { IfOk result (IsPrintedOf name.now) }
+/// Adds the line of each join. It is told of the root's name, from which it goes on.
+fn add_lines<'n>(
+    alloc: Global,
+    root: &'n Name,
+    lines: &'n [KnownLine],
+    text: &mut Vec<u8>,
+) -> Result<(), Oom>
+    requires { root.now ≡ [] }
+    ensures { IfOk result (λ _. text.new.items ≡ text.old.items ++ flat_map spec.line_text lines.now) }
 {
-    let mut text = Vec::new(alloc);
-    name.text_into(alloc, &mut text)?;
-    Ok(Printed {
-        numbers: name.numbers(alloc)?,
-        text,
-    })
-}
-
-/// The name with its text, after another one.
-fn print_after(alloc: Global, last: Printed, name: &Name) -> Result<Printed, Oom>
-    requires { IsPrinted last }
-    ensures { IfOk result (IsPrintedOf name.now) }
-{
-    let numbers = name.numbers(alloc)?;
-    match numbers.as_slice().strip_prefix(last.numbers.as_slice()) {
-        Some(rest) => {
-            let mut text = last.text;
-            add_numbers(rest, &mut text)?;
-            Ok(Printed { numbers, text })
-        }
-        None => print_name(alloc, name),
-    }
-}
-
-/// Adds the text of a name, where this one is printed.
-fn add_name(alloc: Global, last: &Printed, name: &Name, text: &mut Vec<u8>) -> Result<(), Oom>
-    requires { IsPrinted last.now }
-    ensures { IfOk result (λ _. text.new.items ≡ text.old.items ++ name_text name.now) }
-{
-    let numbers = name.numbers(alloc)?;
-    match numbers.as_slice().strip_prefix(last.numbers.as_slice()) {
-        Some(rest) => {
-            text.extend_from_slice(last.text.as_slice())?;
-            add_numbers(rest, text)
-        }
-        None => name.text_into(alloc, text),
-    }
-}
-
-/// Adds the numbers at the end of a name.
-fn add_numbers(numbers: &[u32], text: &mut Vec<u8>) -> Result<(), Oom>
-    ensures { IfOk result (λ _.
-        text.new.items ≡ text.old.items ++ parts_text numbers.now) }
-{
-    for number in numbers {
-        add_count(text, b".", u128::from(*number))?;
+    let mut name = Vec::from_slice(alloc, b"0")?;
+    let mut last = root;
+    for line in lines {
+        go_to(alloc, last, &line.by, &mut name)?;
+        last = &line.by;
+        add_line(alloc, line, name.as_slice(), text)?;
     }
     Ok(())
 }
 
+/// Makes the printed name `text` of the first name that of the second.
+fn go_to(alloc: Global, from: &Name, to: &Name, text: &mut Vec<u8>) -> Result<(), Oom>
+    requires { text.old.items ≡ name_text from.now }
+    ensures { IfOk result (λ _. text.new.items ≡ name_text to.now) }
+{
+    if *from == *to {
+        return Ok(());
+    }
+    if let Some((number, maker)) = to.split_last() {
+        if *maker == *from {
+            return add_count(text, b".", u128::from(number));
+        }
+    }
+    text.clear();
+    to.text_into(alloc, text)
+}
+
+/// Adds the text of a name, where this one is printed.
+fn add_name(
+    alloc: Global,
+    last: &Name,
+    printed: &[u8],
+    name: &Name,
+    text: &mut Vec<u8>,
+) -> Result<(), Oom>
+    requires { printed.now ≡ name_text last.now }
+    ensures { IfOk result (λ _. text.new.items ≡ text.old.items ++ name_text name.now) }
+{
+    if let Some((number, maker)) = name.split_last() {
+        if *maker == *last {
+            text.extend_from_slice(printed)?;
+            return add_count(text, b".", u128::from(number));
+        }
+    }
+    name.text_into(alloc, text)
+}
+
 /// Adds the line of a join, whose task's name is printed.
-fn add_line(alloc: Global, line: &KnownLine, by: &Printed, text: &mut Vec<u8>) -> Result<(), Oom>
-    requires { IsPrintedOf line.now.by by.now }
+fn add_line(alloc: Global, line: &KnownLine, by: &[u8], text: &mut Vec<u8>) -> Result<(), Oom>
+    requires { by.now ≡ name_text line.now.by }
     ensures { IfOk result (λ _. text.new.items ≡ text.old.items ++ spec.line_text line.now) }
 {
-    text.extend_from_slice(by.text.as_slice())?;
+    text.extend_from_slice(by)?;
     text.extend_from_slice(b" joins ")?;
-    add_name(alloc, by, &line.of, text)?;
+    add_name(alloc, &line.by, by, &line.of, text)?;
     text.push(b' ')?;
     text.extend_from_slice(word_of(line.how))?;
     text.push(b'\n')?;

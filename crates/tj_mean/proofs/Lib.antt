@@ -10,3 +10,4 @@ pub mod Depths
 pub mod RoundWaves
 pub mod WaveSteps
 pub mod TakenTasks
+pub mod AgendaSteps

@@ -12,70 +12,35 @@ use Rattle.tj_body.specs.Programs.{Rules, Program, AreLawful, root_task}
 use Rattle.tj_body.specs.RoundPoints.{IsOfRounds}
 use Rattle.tj_body.specs.Rounds.{given, tasks, cells, cells_by, writes_by, last_round, IsFull}
 use Rattle.tj_body.specs.declared.point.Entry.{Entry}
-use Rattle.tj_body.specs.declared.point.PointStage.{PointStage}
-use Rattle.tj_body.specs.declared.point.PointStage.TheVariants as stage
 use Rattle.tj_body.specs.declared.point.Task.{Task}
 use Rattle.tj_body.specs.declared.point.Point.{Point}
 use Rattle.tj_body.specs.History.{after_step}
 use Rattle.tj_body.proofs.Counts.{is, is_one, times, times_map, total, total_append, total_add, total_in}
 use Rattle.tj_body.proofs.Counts.{total_flat_map}
-use Rattle.tj_body.proofs.Counts.{fewer, at_least, has_of_times, in_of_times, times_of_in}
+use Rattle.tj_body.proofs.Counts.{fewer, at_least, in_of_times, times_of_in}
 use Rattle.tj_body.proofs.Histories.Good.{task_proper}
 use Rattle.tj_body.proofs.Histories.Points.{whole}
 use Rattle.tj_body.proofs.Lists.{in_left, in_right, in_either, in_map, to_map, from_flat_map, in_flat_map, sub_length}
 use Rattle.tj_body.proofs.RoundPoints.{points_are_good, points_stay}
 use Rattle.tj_body.proofs.Rounds.Families.{same_name}
-use Rattle.tj_body.proofs.Rounds.InOrder.{cell_in}
 use Rattle.tj_body.proofs.Rounds.Keeps.{task_cell, written, promised, forked}
 use Rattle.tj_body.proofs.Rounds.Rests.{point_name}
 use Rattle.tj_body.proofs.Rounds.Rises.{cells_sub, climbs, in_entries, once_name, one_of_all, tasks_within, up}
 use Rattle.tj_mean.specs.FirstFull.{IsFirstFull}
 use Rattle.tj_mean.specs.Inner.KeptPoints.{IsKept, AreKept}
 use Rattle.tj_mean.specs.Inner.Reached.{steps_from, Reaches, Enters, emptied}
-use Rattle.tj_mean.specs.Inner.Waves.{cells_of, AreKeptLater, StandsStill, MayWait, IsTakenUp, IsWave, IsWaveAt}
+use Rattle.tj_mean.specs.Inner.Waves.{cells_of, promised_by, AreKeptLater, IsTakenUp, IsWave}
 use Rattle.tj_mean.proofs.AtWork.CellCounts.{names_of, names_at, forked as children_named, things, AreNamed, once}
 use Rattle.tj_mean.proofs.AtWork.Fronts.{with_front}
 use Rattle.tj_mean.proofs.AtWork.KeptPoints.{in_set, in_at, total_set, kept_at, kept_set, kept_append}
 use Rattle.tj_mean.proofs.AtWork.KeptPoints.{kept_starts, kept_length, kept_stopped, kept_front, kept_emptied}
 use Rattle.tj_mean.proofs.AtWork.KeptPoints.{all_stopped}
-use Rattle.tj_mean.proofs.AtWork.KeptPoints.{any_default}
 use Rattle.tj_mean.proofs.AtWork.PointSteps.{front_reaches, same_task}
 use Rattle.tj_mean.proofs.AtWork.TasksAtWork.{unfront, times_names, starts_names, starts_forked}
 use Rattle.tj_mean.proofs.Depths.{child_depth, family_depth, near_child, family_there}
 
--- what stands at an index where an element is replaced or a list is longer
+-- elements of a list where one is replaced
 module _ {A : Type 0} where
-  set_here : (l : List A) (i : ℕ) (x d : A) → i < length l → get_or (slice_set l i x) i d ≡ x
-  set_here [] i x d h = absurd (omega arith)
-  set_here (y ∷ ys) zero x d h = refl
-  set_here (y ∷ ys) (suc i) x d h = set_here ys i x d (omega arith)
-
-  set_other : (l : List A) (i j : ℕ) (x d : A) → (j < i) ⊎ (i < j) → get_or (slice_set l i x) j d ≡ get_or l j d
-  set_other [] i j x d h = refl
-  set_other (y ∷ ys) zero zero x d (inl h) = absurd (omega arith)
-  set_other (y ∷ ys) zero zero x d (inr h) = absurd (omega arith)
-  set_other (y ∷ ys) zero (suc j) x d h = refl
-  set_other (y ∷ ys) (suc i) zero x d h = refl
-  set_other (y ∷ ys) (suc i) (suc j) x d (inl h) = set_other ys i j x d (inl (omega arith))
-  set_other (y ∷ ys) (suc i) (suc j) x d (inr h) = set_other ys i j x d (inr (omega arith))
-
-  pub set_length : (l : List A) (i : ℕ) (x : A) → length (slice_set l i x) ≡ length l
-  set_length [] i x = refl
-  set_length (y ∷ ys) zero x = refl
-  set_length (y ∷ ys) (suc i) x = ap suc (set_length ys i x)
-
-  in_front : (l m : List A) (i : ℕ) (d : A) → i < length l → get_or (l ++ m) i d ≡ get_or l i d
-  in_front [] m i d h = absurd (omega arith)
-  in_front (y ∷ ys) m zero d h = refl
-  in_front (y ∷ ys) m (suc i) d h = in_front ys m i d (omega arith)
-
-  -- what holds of each element of the second list holds of each behind the first
-  behind_front : (P : A → Type 0) (l m : List A) → ((x : A) → IsIn x m → P x) → (i : ℕ) (d : A) → length l ≤ i
-      → i < length (l ++ m) → P (get_or (l ++ m) i d)
-  behind_front P [] m h i d a b = h (get_or m i d) (in_at m i d b)
-  behind_front P (y ∷ ys) m h zero d a b = absurd (omega arith)
-  behind_front P (y ∷ ys) m h (suc i) d a b = behind_front P ys m h i d (omega arith) (omega arith)
-
   -- an element of the list without one replaced is there, or is the one that was
   kept_in_set : (l : List A) (i : ℕ) (x d y : A) → i < length l → IsIn y l
       → IsIn y (slice_set l i x) ⊎ (y ≡ get_or l i d)
@@ -114,24 +79,28 @@ module _ {B : Type 0} where
       let e = ap (λ (z : Point B). length z.promises) a.0.stands_for in
       let r = kept_cells qs ps a.1 in omega arith
 
-  -- one more
-  pub cells_more : (ps : List (Point B)) (p : Point B) → cells_of (ps ++ p ∷ []) ≡ cells_of ps + suc (length p.promises)
-  cells_more [] p = omega arith
-  cells_more (x ∷ ps) p = let r = cells_more ps p in omega arith
+  -- each task is a cell, and so is each promise
+  pub cells_apart : (ps : List (Point B)) → cells_of ps ≡ length ps + promised_by ps
+  cells_apart [] = refl
+  cells_apart (p ∷ ps) = let r = cells_apart ps in omega arith
 
-  -- no beginning has more
-  pub cells_front : (ps rs : List (Point B)) → cells_of ps ≤ cells_of (ps ++ rs)
-  cells_front [] rs = omega arith
-  cells_front (x ∷ ps) rs = let r = cells_front ps rs in omega arith
+  -- tasks that begin have made no promises
+  pub promised_starts : (ps : List (Point B)) (cs : List (Task B)) → promised_by (ps ++ starts cs) ≡ promised_by ps
+  promised_starts ps cs =
+      let a = total_append (λ (p : Point B). length p.promises) ps (starts cs) in let b = none cs in omega arith
+    where
+      none : (ds : List (Task B)) → promised_by (starts ds) ≡ 0
+      none [] = refl
+      none (d ∷ ds) = let r = none ds in omega arith
 
   -- there are no more points than cells
   pub points_fit : (ps : List (Point B)) → length ps ≤ cells_of ps
   points_fit [] = omega arith
   points_fit (p ∷ ps) = let r = points_fit ps in omega arith
 
-  -- nor promises of one of them
+  -- nor more promises of one of them than of all
   pub promises_fit : (ps : List (Point B)) (i : ℕ) (d : Point B) → i < length ps
-      → length (get_or ps i d).promises ≤ cells_of ps
+      → length (get_or ps i d).promises ≤ promised_by ps
   promises_fit [] i d h = absurd (omega arith)
   promises_fit (p ∷ ps) zero d h = omega arith
   promises_fit (p ∷ ps) (suc i) d h = let r = promises_fit ps i d (omega arith) in omega arith
@@ -156,12 +125,6 @@ module _ {B : Type 0} where
       let m = in_map (λ (c : Task B). start c) p cs i in
       subst (λ (z : Point B). IsIn w z.writes) m.2 j
 
-  start_may_wait : (V : Assignment) (news : List Name) (cs : List (Task B)) (p : Point B) → IsIn p (starts cs)
-      → MayWait V news p
-  start_may_wait V news cs p i =
-      let m = in_map (λ (c : Task B). start c) p cs i in
-      subst (MayWait V news) (sym m.2) (λ q spare e n. absurd (cc))
-
   -- a point of a task leads to such points
   pub point_reaches : (rules : Rules B) (V : Assignment) (t : Task B) (p r : Point B) → IsPointOf rules V t p
       → Reaches rules V p r → IsPointOf rules V t r
@@ -178,9 +141,9 @@ module _ {B : Type 0} (program : Program B) where
   root = root_task program.root
 
   -- the first wave begins
-  pub wave_begins : (E : Assignment) (news : List Name) (qs : List (Point B)) → ((q : Name) → E q ≡ None)
-      → qs ≡ start root ∷ [] → IsWave program 0 E news 0 qs [] []
-  wave_begins E news qs none e = record {
+  pub wave_begins : (E : Assignment) (qs : List (Point B)) → ((q : Name) → E q ≡ None)
+      → qs ≡ start root ∷ [] → IsWave program 0 E qs [] []
+  wave_begins E qs none e = record {
     whole = starts (root ∷ []);
     kept = subst (λ l. AreKept l (starts (root ∷ []))) (sym e) (kept_starts (root ∷ []));
     assigned = λ i q. none q i;
@@ -189,10 +152,6 @@ module _ {B : Type 0} (program : Program B) where
     later_there = λ c i. absurd i;
     written = λ p q x i w. absurd (start_writes_nothing p (q, x) (root ∷ []) i w);
     writes_there = λ q x i. absurd i;
-    before = λ i d l m. absurd (omega arith);
-    behind = subst (λ l. (i : ℕ) (d : Point B) → 0 ≤ i → i < length l → MayWait (V 0) news (get_or l i d)) (sym e)
-        (λ i d l m. start_may_wait (V 0) news (root ∷ []) (get_or (starts (root ∷ [])) i d)
-        (in_at (starts (root ∷ [])) i d m));
   }
     where
       one : (p : Point B) → IsIn p (starts (root ∷ []))
@@ -201,8 +160,8 @@ module _ {B : Type 0} (program : Program B) where
       one p (inr i) = absurd i
 
   module _ (obeys : AreLawful program.rules) (proper : IsProper program.rules root) (n : ℕ) (E : Assignment)
-      (news : List Name) (at : ℕ) (qs : List (Point B)) (later : List (Task B)) (writes : List (Name × Entry))
-      (w : IsWave program n E news at qs later writes) where
+      (qs : List (Point B)) (later : List (Task B)) (writes : List (Name × Entry))
+      (w : IsWave program n E qs later writes) where
     of_rounds : (p : Point B) → IsIn p w.whole → IsOfRounds program p
     of_rounds p i = let r = w.of_round p i in (r.0, (suc n, r.1), (n, r.2))
 
@@ -240,42 +199,7 @@ module _ {B : Type 0} (program : Program B) where
         (λ q. at_least q (flat_map cells_at_point w.whole) (cells program (suc n)) (cells_once q) (cell_in_round q)) in
         omega arith
 
-    module _ (there : at < length qs) where
-      -- a task that stands at none of these cells has stopped
-      pub wave_stays : (q : Point B) → q ≡ get_or qs at q → StandsStill news q.stage
-          → IsWave program n E news (suc at) qs later writes
-      wave_stays q q_is still = record {
-        whole = w.whole;
-        kept = w.kept;
-        assigned = w.assigned;
-        of_round = w.of_round;
-        named = w.named;
-        later_there = w.later_there;
-        written = w.written;
-        writes_there = w.writes_there;
-        before = before;
-        behind = λ i d l m. w.behind i d (omega arith) m;
-      }
-        where
-          has_stopped : (s : PointStage) → q.stage ≡ s → StandsStill news s → HasStopped (V n) q
-          has_stopped (stage.Answered a) e h = absurd h
-          has_stopped (stage.Waits x spare) e h =
-              inr (
-                x,
-                spare,
-                e,
-                subst (MayWait (V n) news) (sym q_is) (w.behind at q (omega arith) there) x spare e
-                    (λ i. let t = has_of_times x news (times_of_in x news i) in absurd (cc)),
-              )
-          has_stopped (stage.Closed c) e h = inl (c, e)
-
-          before : (i : ℕ) (d : Point B) → i < suc at → i < length qs → HasStopped (V n) (get_or qs i d)
-          before i d l m = dite (dec_le at i)
-              (λ h. let e : i ≡ at = omega arith in
-              subst (λ k. HasStopped (V n) (get_or qs k d)) (sym e)
-              (subst (HasStopped (V n)) (q_is ∙ any_default qs at there q d) (has_stopped q.stage refl still)))
-              (λ h. w.before i d (omega arith) m)
-
+    module _ (at : ℕ) (there : at < length qs) where
       -- a task can go on from its point
       pub wave_good : (q : Point B) → q ≡ get_or qs at q → IsGood program.rules q
       wave_good q q_is =
@@ -453,32 +377,7 @@ module _ {B : Type 0} (program : Program B) where
                 (s.0, s.1, s.3 (y, e) o.2)
             by (inr j) = (after, after_there, in_right (y, e) kept_here.handed_writes end.writes j)
 
-          front_length : length front ≡ length qs
-          front_length = set_length qs at (emptied end)
-
-          all_before : (i : ℕ) (d : Point B) → i < suc at → HasStopped (V n) (get_or (front ++ starts ds) i d)
-          all_before i d l =
-              let f = front_length in
-              subst (HasStopped (V n)) (sym (in_front front (starts ds) i d (omega arith)))
-              (dite (dec_le at i)
-              (λ h. let e : i ≡ at = omega arith in
-              subst (λ k. HasStopped (V n) (get_or front k d)) (sym e)
-              (subst (HasStopped (V n)) (sym (set_here qs at (emptied end) d there)) stopped))
-              (λ h. subst (HasStopped (V n)) (sym (set_other qs at i (emptied end) d (inl (omega arith))))
-              (w.before i d (omega arith) (omega arith))))
-
-          all_behind : (i : ℕ) (d : Point B) → suc at ≤ i → i < length (front ++ starts ds)
-              → MayWait (V n) news (get_or (front ++ starts ds) i d)
-          all_behind i d l m =
-              let f = front_length in
-              dite (dec_le (length front) i)
-              (λ h. behind_front (MayWait (V n) news) front (starts ds) (start_may_wait (V n) news ds) i d h m)
-              (λ h. subst (MayWait (V n) news)
-              (sym (in_front front (starts ds) i d (omega arith)
-              ∙ set_other qs at i (emptied end) d (inr (omega arith))))
-              (w.behind i d (omega arith) (omega arith)))
-
-          wave_goes_on : IsWave program n E news (suc at) rest later' writes'
+          wave_goes_on : IsWave program n E rest later' writes'
           wave_goes_on = record {
             whole = all;
             kept = subst (λ l. AreKept l all) (sym rest_is)
@@ -492,17 +391,12 @@ module _ {B : Type 0} (program : Program B) where
             later_there = all_later;
             written = all_written;
             writes_there = all_writes_there;
-            before = subst (λ l. (i : ℕ) (d : Point B) → i < suc at → i < length l → HasStopped (V n) (get_or l i d))
-                (sym rest_is) (λ i d a b. all_before i d a);
-            behind = subst
-                (λ l. (i : ℕ) (d : Point B) → suc at ≤ i → i < length l → MayWait (V n) news (get_or l i d))
-                (sym rest_is) all_behind;
           }
 
       -- the task with this index is taken up
       pub wave_takes_up : (N : ℕ) (kept kept' : List (Task B)) (rest : List (Point B)) (writes' : List (Name × Entry))
           → AreKeptLater N kept later → IsTakenUp program.rules E N n at qs rest kept kept' writes writes'
-          → IsWaveAt program N n E news (suc at) rest kept' writes'
+          → (later' : List (Task B)) × IsWave program n E rest later' writes' × AreKeptLater N kept' later'
       wave_takes_up N kept kept' rest writes' are u = by u.children where
         reached : Reaches program.rules (V n) (get_or qs at u.end) u.end
         reached = subst (λ F. Reaches program.rules F (get_or qs at u.end) u.end) w.assigned (u.reached u.end)
@@ -574,25 +468,25 @@ module _ {B : Type 0} (program : Program B) where
             × (kept' ≡ kept))
             ⊎ ((n < length u.end.name) × (rest ≡ slice_set qs at (emptied u.end))
             × ((kept' ≡ kept ++ u.end.children) ⊎ ((N < length kept) × (kept' ≡ kept))))
-            → IsWaveAt program N n E news (suc at) rest kept' writes'
+            → (later' : List (Task B)) × IsWave program n E rest later' writes' × AreKeptLater N kept' later'
         by (inl h) =
             let g = wave_goes_on u.end reached stopped u.end.children [] (λ c i. i) (λ c i. absurd i)
             (λ x. omega arith) (λ c i. let l = h.0 in let a = child_name c i in omega arith) (λ c i. absurd i)
-            rest h.1 in record {
-              later = later;
-              wave = subst (λ l. IsWave program n E news (suc at) rest l writes') (append-nil later)
-                  (subst (λ l. IsWave program n E news (suc at) rest (later ++ []) l) (sym u.written) g);
-              are_kept = all_kept h.2;
-            }
+            rest h.1 in (
+              later,
+              subst (λ l. IsWave program n E rest l writes') (append-nil later)
+                  (subst (λ l. IsWave program n E rest (later ++ []) l) (sym u.written) g),
+              all_kept h.2,
+            )
         by (inr h) =
             let g = wave_goes_on u.end reached stopped [] u.end.children (λ c i. absurd i) (λ c i. i)
             (λ x. omega arith) (λ c i. absurd i)
             (λ c i. let l = h.0 in let a = child_name c i in let b = end_depth in omega arith)
-            rest (h.1 ∙ sym (append-nil (slice_set qs at (emptied u.end)))) in record {
-              later = later ++ u.end.children;
-              wave = subst (λ l. IsWave program n E news (suc at) rest (later ++ u.end.children) l) (sym u.written) g;
-              are_kept = more_kept h.2;
-            }
+            rest (h.1 ∙ sym (append-nil (slice_set qs at (emptied u.end)))) in (
+              later ++ u.end.children,
+              subst (λ l. IsWave program n E rest (later ++ u.end.children) l) (sym u.written) g,
+              more_kept h.2,
+            )
 
     -- where all have stopped
     module _ (stopped : (i : ℕ) (d : Point B) → i < length qs → HasStopped (V n) (get_or qs i d)) where
@@ -672,8 +566,7 @@ module _ {B : Type 0} (program : Program B) where
           omega arith
 
       -- the next wave begins
-      module _ (F : Assignment) (enters : Enters writes E F) (news' : List Name)
-          (news_are : news' ≡ map (λ (x : Name × Entry). x.0) writes) (rest : List (Point B))
+      module _ (F : Assignment) (enters : Enters writes E F) (rest : List (Point B))
           (rest_is : rest ≡ qs ++ starts later) where
         entered : (q : Name) (e : Entry) → F q ≡ Some e → V (suc n) q ≡ Some e
         entered q e h = by (enters.only q e h) where
@@ -733,33 +626,7 @@ module _ {B : Type 0} (program : Program B) where
               let r = w.of_round p k in inr (written program obeys proper n r.0 p r.1 r.2 q e j)
           by (inr k) = absurd (start_writes_nothing p (q, e) later k j)
 
-        -- a task that has stopped waits on where its cell isn't written
-        waits_on : (p : Point B) → HasStopped (V n) p → MayWait (V (suc n)) news' p
-        waits_on p (inl c) q spare e none = let g : stage.Closed c.0 ≡ stage.Waits q spare = sym c.1 ∙ e in absurd (cc)
-        waits_on p (inr h) q spare e none = sym (same_entry q) ∙ by (F q) refl where
-          same_cell : h.0 ≡ q
-          same_cell = let g : stage.Waits h.0 h.1 ≡ stage.Waits q spare = sym h.2 ∙ e in ap (λ s. cell_in s) g
-
-          by : (o : Option Entry) → F q ≡ o → F q ≡ None
-          by None f = f
-          by (Some x) f = from (enters.only q x f) where
-            from : IsIn (q, x) writes ⊎ (E q ≡ Some x) → F q ≡ None
-            from (inl i) = absurd (none (subst (λ l. IsIn q l) (sym news_are)
-                (to_map (λ (y : Name × Entry). y.0) (q, x) writes i)))
-            from (inr g) =
-                let z : None ≡ Some x = sym (ap (V n) (sym same_cell) ∙ h.3) ∙ subst (λ U. U q ≡ Some x) w.assigned g in
-                absurd (cc)
-
-        next_behind : (i : ℕ) (d : Point B) → 0 ≤ i → i < length (qs ++ starts later)
-            → MayWait (V (suc n)) news' (get_or (qs ++ starts later) i d)
-        next_behind i d l m =
-            dite (dec_le (length qs) i)
-            (λ h. behind_front (MayWait (V (suc n)) news') qs (starts later)
-            (start_may_wait (V (suc n)) news' later) i d h m)
-            (λ h. subst (MayWait (V (suc n)) news') (sym (in_front qs (starts later) i d (omega arith)))
-            (waits_on (get_or qs i d) (stopped i d (omega arith))))
-
-        pub wave_next : IsWave program (suc n) F news' 0 rest [] []
+        pub wave_next : IsWave program (suc n) F rest [] []
         wave_next = record {
           whole = next;
           kept = subst (λ l. AreKept l next) (sym rest_is)
@@ -771,9 +638,6 @@ module _ {B : Type 0} (program : Program B) where
           later_there = λ c i. absurd i;
           written = next_written;
           writes_there = λ q e i. absurd i;
-          before = λ i d l m. absurd (omega arith);
-          behind = subst (λ l. (i : ℕ) (d : Point B) → 0 ≤ i → i < length l → MayWait (V (suc n)) news' (get_or l i d))
-              (sym rest_is) next_behind;
         }
 
 module _ {B : Type 0} (program : Program B) where

@@ -10,3 +10,4 @@ pub mod MetIndexes
 pub mod NameMaps
 pub mod KeptPoints
 pub mod Waves
+pub mod Agendas

@@ -45,16 +45,12 @@ pub fn start_all<B: Body>(
 }
 
 /// The cells have these entries.
-pub fn enter_all(
-    alloc: Global,
-    given: &mut NameMap<Entry>,
-    writes: Vec<(Name, Entry)>,
-) -> Result<(), Oom>
+pub fn enter_all(given: &mut NameMap<Entry>, writes: Vec<(Name, Entry)>) -> Result<(), Oom>
     ensures { IfOk result (λ _.
         Enters writes.items (assignment_in given.old) (assignment_in given.new)) }
 {
     for (cell, became) in writes {
-        given.put(alloc, cell, became)?;
+        given.put(cell, became)?;
     }
     Ok(())
 }

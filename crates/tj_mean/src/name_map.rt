@@ -1,5 +1,5 @@
-//! A map from names. Names of one length stand in a map of their own, and those of different
-//! lengths are never compared: in a chain of forks they are long and begin alike.
+//! A map from names. Its order is by length and then from the last number on, so names of different
+//! lengths are told apart at once: in a chain of forks they are long and begin alike.
 ghost use Rattle.std.specs.Prelude.{ℕ, ◌≡◌, List, Some, None, cond, option_copied, IfOk};
 ghost use Rattle.tj_body.specs.Names.{same};
 ghost use Rattle.tj_mean.specs.Inner.NameMaps.{value_at};
@@ -11,8 +11,7 @@ use tj_base::{Name, Oom};
 /// A value for each of some names.
 #[derive(Drop)]
 pub struct NameMap<V> {
-    /// The names of each length, with their values.
-    pub lengths: BTreeMap<usize, BTreeMap<Name, V>>,
+    pub values: BTreeMap<Name, V>,
 }
 
 impl<V: Drop> NameMap<V> {
@@ -21,7 +20,7 @@ impl<V: Drop> NameMap<V> {
         ensures { (q : List ℕ) → value_at result q ≡ None }
     {
         NameMap {
-            lengths: BTreeMap::new(alloc),
+            values: BTreeMap::new(alloc),
         }
     }
 
@@ -29,25 +28,15 @@ impl<V: Drop> NameMap<V> {
     pub fn get(&self, name: &Name) -> Option<&V>
         ensures { option_copied result ≡ value_at self.now name.now }
     {
-        let length = name.depth();
-        match self.lengths.get(&length) {
-            Some(row) => row.get(name),
-            None => None,
-        }
+        self.values.get(name)
     }
 
     /// From now on the name has this value.
-    pub fn put(&mut self, alloc: Global, name: Name, value: V) -> Result<(), Oom>
+    pub fn put(&mut self, name: Name, value: V) -> Result<(), Oom>
         ensures { IfOk result (λ _. (q : List ℕ) → value_at self.new q
             ≡ cond (same q name) (Some value) (value_at self.old q)) }
     {
-        let length = name.depth();
-        let mut row = match self.lengths.remove(&length) {
-            Some(row) => row,
-            None => BTreeMap::new(alloc),
-        };
-        row.insert(name, value)?;
-        self.lengths.insert(length, row)?;
+        self.values.insert(name, value)?;
         Ok(())
     }
 
@@ -57,10 +46,6 @@ impl<V: Drop> NameMap<V> {
         ensures stays { (q : List ℕ) → value_at self.new q
             ≡ cond (same q name.now) None (value_at self.old q) }
     {
-        let length = name.depth();
-        match self.lengths.get_mut(&length) {
-            Some(row) => row.remove(name),
-            None => None,
-        }
+        self.values.remove(name)
     }
 }

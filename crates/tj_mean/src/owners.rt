@@ -56,7 +56,7 @@ fn enter(alloc: Global, owners: &mut Owners, index: usize, cell: &Name) -> Resul
         ≡ cond (same q cell.now) (Some index) (owner_in owners.old q)) }
 {
     let copy = cell.copy(alloc)?;
-    owners.put(alloc, copy, index)?;
+    owners.put(copy, index)?;
     Ok(())
 }
 

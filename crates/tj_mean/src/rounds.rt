@@ -137,7 +137,7 @@ pub fn at_rest<B: Body>(
         agenda.stop(alloc, at, &points[at].stage)?;
         let handed = hand_on(alloc, &mut points[at]);
         agenda.wake(handed.writes.as_slice())?;
-        enter_all(alloc, &mut given, handed.writes)?;
+        enter_all(&mut given, handed.writes)?;
         start_all(alloc, &mut points, handed.children)?;
     }
     Ok(AtRest { given, points })

@@ -1,27 +1,27 @@
 //! The first round that has more cells than a limit. Rounds are gone through wave by wave: each
 //! task is kept at the point where its history of the round stops. In the next round those go on
-//! whose cell the last wave wrote, and those begin that come deep enough now. What a wave writes is
-//! seen from the next one on. Where more tasks than the limit are to begin in the next round, it is
-//! full, and none of them is needed.
-ghost use Rattle.std.specs.Prelude.{ℕ, ◌≡◌, ◌<◌, ◌≤◌, [], get_or, map, suc, IfOk, IfNone};
-ghost use Rattle.std.specs.Prelude.{IfSome, IsTrue, IsFalse, length};
+//! whose cell the last wave wrote, and those begin that come deep enough now. A wave takes up these
+//! alone: they are on an agenda. What a wave writes is seen from the next one on. Where more tasks
+//! than the limit are to begin in the next round, it is full, and none of them is needed.
+ghost use Rattle.std.specs.Prelude.{ℕ, ◌≡◌, ◌<◌, ◌≤◌, [], get_or, length, suc, IfNone, IfOk};
+ghost use Rattle.std.specs.Prelude.{IfSome};
 ghost use Rattle.tj_base.specs.declared.cell.TheConstants.{MAX_CELLS};
 ghost use Rattle.tj_body.specs.Asks.{IsFresh};
-ghost use Rattle.tj_body.specs.Names.{has};
 ghost use Rattle.tj_body.specs.Points.{IsGood};
 ghost use Rattle.tj_body.specs.Programs.{program_of, rules_of};
 ghost use Rattle.tj_body.specs.Rounds as rounds;
 ghost use Rattle.tj_mean.specs.FirstFull.{IsFirstFull};
 ghost use Rattle.tj_mean.specs.Inner.Assignments.{assignment_in};
-ghost use Rattle.tj_mean.specs.Inner.Waves.{IsTakenUp, IsWave, IsWaveAt, IsWaveDone, StandsStill, cells_of};
+ghost use Rattle.tj_mean.specs.Inner.Waves.{IsTakenUp, IsWaveAt, IsWaveDone};
 
+use crate::agenda::Agenda;
 use crate::handed_on::{HandedOn, enter_all, hand_on, start_all};
 use crate::history_steps::go_to_stop;
 use crate::name_map::NameMap;
 use crate::rounds::first_points;
 use std::alloc::Global;
 use tj_base::{Name, Oom};
-use tj_body::{Body, Entry, Point, PointStage, Task};
+use tj_body::{Body, Entry, Point, Task};
 
 /// The first round with more cells than the limit, and the entries of the round before.
 #[derive(Drop)]
@@ -53,7 +53,8 @@ pub fn first_full<B: Body>(
 {
     let mut given = NameMap::new(alloc);
     let mut points = first_points(alloc, root)?;
-    let mut news = Vec::new(alloc);
+    let mut agenda = Agenda::new(alloc);
+    let mut left = cells as usize;
     let mut round = 0;
     while round <= 2 * cells {
         let found = wave(
@@ -63,8 +64,9 @@ pub fn first_full<B: Body>(
             strict,
             round,
             &given,
-            news.as_slice(),
             &mut points,
+            &mut agenda,
+            &mut left,
         )?;
         round += 1;
         let Some(handed) = found else {
@@ -73,8 +75,8 @@ pub fn first_full<B: Body>(
                 given,
             }));
         };
-        news = written_cells(alloc, handed.writes.as_slice())?;
-        enter_all(alloc, &mut given, handed.writes)?;
+        agenda.wake(handed.writes.as_slice())?;
+        enter_all(&mut given, handed.writes)?;
         if handed.children.len() > cells as usize {
             return Ok(Some(FullRound {
                 number: round + 1,
@@ -95,50 +97,50 @@ fn wave<B: Body>(
     strict: bool,
     round: u32,
     given: &NameMap<Entry>,
-    news: &[Name],
     points: &mut Vec<Point<B>>,
+    agenda: &mut Agenda,
+    left: &mut usize,
 ) -> Result<Option<HandedOn<B>>, Oom>
     requires root { IsFresh B.places B.awaits B.left 1 root.now }
+    requires cells { cells ≤ MAX_CELLS }
     requires begins { let p = program_of B.places B.awaits B.left B.asks B.then strict root.now in
-        IsWave p round (assignment_in given.now) news.now 0 points.old.items [] [] }
+        IsWaveAt p cells round (assignment_in given.now) agenda.old left.old points.old.items [] [] }
     ensures full { let p = program_of B.places B.awaits B.left B.asks B.then strict root.now in
         IfOk result (λ handed. IfNone handed (cells < length (rounds.cells p (suc round)))) }
     ensures done { let p = program_of B.places B.awaits B.left B.asks B.then strict root.now in
         IfOk result (λ handed. IfSome handed (λ h. IsWaveDone p cells round
-        (assignment_in given.now) news.now points.new.items h.children.items h.writes.items)) }
+        (assignment_in given.now) agenda.new left.new points.new.items h.children.items
+        h.writes.items)) }
 {
     let mut later = Vec::new(alloc);
     let mut writes = Vec::new(alloc);
-    let mut at = 0;
-    while at < points.len() {
-        if points.len() > cells as usize {
+    while points.len() <= *left {
+        let Some(at) = agenda.next_index(points.len()) else {
+            return Ok(Some(HandedOn {
+                children: later,
+                writes,
+            }));
+        };
+        let room = *left + points[at].promises.items().len();
+        take_up(
+            alloc,
+            points,
+            at,
+            given,
+            strict,
+            cells,
+            round,
+            &mut later,
+            &mut writes,
+        )?;
+        let made = points[at].promises.items().len();
+        if made > room {
             return Ok(None);
         }
-        if is_woken(&points[at], news) {
-            take_up(
-                alloc,
-                points,
-                at,
-                given,
-                strict,
-                cells,
-                round,
-                &mut later,
-                &mut writes,
-            )?;
-            if points[at].promises.items().len() > cells as usize {
-                return Ok(None);
-            }
-        }
-        at += 1;
+        *left = room - made;
+        agenda.stop(alloc, at, &points[at].stage)?;
     }
-    if has_more(points.as_slice(), cells) {
-        return Ok(None);
-    }
-    Ok(Some(HandedOn {
-        children: later,
-        writes,
-    }))
+    Ok(None)
 }
 
 /// The task with this index goes on to where it stops. Its children begin, or they are for the next
@@ -174,49 +176,4 @@ fn take_up<B: Body>(
     }
     later.append(&mut handed.children)?;
     Ok(())
-}
-
-/// Whether the task may go on where these cells have got entries.
-fn is_woken<B: Body>(point: &Point<B>, news: &[Name]) -> bool
-    ensures stays { IsFalse result → StandsStill news.now point.now.stage }
-{
-    match &point.stage {
-        PointStage::Closed(_) => false,
-        PointStage::Answered(_) => true,
-        PointStage::Waits { cell, spare: _ } => is_among(cell, news),
-    }
-}
-
-/// Whether the name is one of these.
-fn is_among(name: &Name, names: &[Name]) -> bool
-    ensures { result ≡ has name.now names.now }
-{
-    names.iter().any(|other| *name == *other)
-}
-
-/// The cells that have these entries.
-fn written_cells(alloc: Global, writes: &[(Name, Entry)]) -> Result<Vec<Name>, Oom>
-    ensures { IfOk result (λ names. names.items ≡ map (λ w. w.0) writes.now) }
-{
-    let mut names = Vec::new(alloc);
-    for (cell, _became) in writes {
-        names.push(cell.copy(alloc)?)?;
-    }
-    Ok(names)
-}
-
-/// Whether the tasks and the promises that they have made are more than the limit.
-fn has_more<B: Body>(points: &[Point<B>], cells: u32) -> bool
-    ensures more { IsTrue result → cells < cells_of points.now }
-    ensures fits { IsFalse result → cells_of points.now ≤ cells }
-{
-    let mut left = cells as usize;
-    for point in points {
-        let made = point.promises.items().len();
-        if made >= left {
-            return true;
-        }
-        left -= made + 1;
-    }
-    false
 }

@@ -1,8 +1,8 @@
 -- The cell with a name, by its makers.
 use Rattle.tj_report.proofs.Prelude.{AreNamed, IsShown, List, Reference, RestCell, [], ap, arith, length, length-append}
-use Rattle.tj_report.proofs.Prelude.{name_by, refl, sym, ℕ, ◌++◌, ◌<◌, ◌∙◌, ◌∷◌, ◌≡◌}
-use Rattle.std.proofs.Common.{ne_eqb}
-use Rattle.std.specs.Prelude.{Bool, IsTrue, ◌==◌, ◌↔◌, ◌≢◌}
+use Rattle.tj_report.proofs.Prelude.{name_by, refl, suc, sym, zero, ℕ, ◌++◌, ◌<◌, ◌∙◌, ◌∷◌, ◌≡◌, ◌≤◌}
+use Rattle.std.proofs.lemmas.Bool.{eq-eqb, eqb-true}
+use Rattle.std.specs.Prelude.{IsTrue, ◌==◌, ◌↔◌, ◌≢◌}
 use Rattle.tj_report.proofs.NamesBy.{name_made}
 
 -- a list with an element at its end isn't the empty one
@@ -32,9 +32,8 @@ module _ (shown : List RestCell) (born : List Reference) (named : AreNamed shown
   )
 
   -- no number is left
-  pub none_left : (left : List ℕ) → length left ≡ 0 → name_by shown at ≢ left
-  none_left [] z e = snoc_some (name_by shown x.parent.0) x.kid (sym made ∙ e)
-  none_left (y ∷ ys) z e = absurd (omega arith)
+  pub none_left : (left : List ℕ) → left ≡ [] → name_by shown at ≢ left
+  none_left left none e = snoc_some (name_by shown x.parent.0) x.kid (sym made ∙ (e ∙ none))
 
   -- the last number is another
   pub other_last : (left before : List ℕ) (last : ℕ) → left ≡ before ++ last ∷ [] → last ≢ x.kid
@@ -42,8 +41,23 @@ module _ (shown : List RestCell) (born : List Reference) (named : AreNamed shown
   other_last left before last split other e =
       other (sym (snoc_one (name_by shown x.parent.0) before x.kid last (sym made ∙ (e ∙ split))).1)
 
+  -- a name of the cell has a last number, and is its maker's without it
+  pub some_left : (left : List ℕ) → left ≡ name_by shown at → 0 < length left
+  some_left left e = let l = ap (λ (q : List ℕ). length q) (e ∙ made) in
+      let m = length-append (name_by shown x.parent.0) (x.kid ∷ []) in omega arith
+
+  pub maker_left : (left maker : List ℕ) (k : ℕ) → left ≡ name_by shown at → left ≡ maker ++ k ∷ []
+      → maker ≡ name_by shown x.parent.0
+  maker_left left maker k e split =
+      (snoc_one maker (name_by shown x.parent.0) k x.kid (sym split ∙ (e ∙ made))).0
+
+-- of two different cells the one whose number isn't smaller isn't the root
+pub later_one : (c d : ℕ) → c ≢ d → d ≤ c → 0 < c
+later_one zero zero differ least = absurd (differ refl)
+later_one zero (suc d) differ least = absurd (omega arith)
+later_one (suc c) d differ least = omega arith
+
 -- no number is left exactly where the list is empty
-pub empty_is : (left : List ℕ) (b : Bool) → b ≡ (length left == 0) → IsTrue b ↔ ([] ≡ left)
-empty_is [] b e = (λ t. refl, λ h. e)
-empty_is (y ∷ ys) b e =
-    let some = ne_eqb (length (y ∷ ys)) 0 (λ z. omega arith) in (λ t. absurd (cc), λ h. absurd (cc))
+pub empty_is : (left : List ℕ) (n : ℕ) → n ≡ length left → IsTrue (n == 0) ↔ ([] ≡ left)
+empty_is [] n e = (λ t. refl, λ h. eq-eqb n 0 e)
+empty_is (y ∷ ys) n e = (λ t. let z = eqb-true n 0 t in absurd (omega arith), λ h. absurd (cc))

@@ -1,5 +1,5 @@
 //! The name of a cell, by its makers up to the root: no names of others are made for it.
-ghost use Rattle.std.specs.Prelude.{◌≡◌, ◌++◌, ◌<◌, List, length, map, IfOk};
+ghost use Rattle.std.specs.Prelude.{[], ◌∷◌, ◌≡◌, ◌++◌, ◌<◌, ℕ, List, length, map, IfOk};
 ghost use Rattle.std.specs.List.{AllByRecursion};
 ghost use Rattle.tj_base.specs.Texts.{name_text};
 ghost use Rattle.tj_body.specs.declared.point.Reference.{Reference};
@@ -60,8 +60,12 @@ pub fn climbed_names<B: Body>(
     ensures { IfOk result (λ list. list.items ≡ map (name_in (names_by rest.now.cells)) cells.now) }
 {
     let mut list = Vec::new(alloc);
+    let mut at = CellId(0);
+    let mut name = Name::root();
     for c in cells {
-        list.push(name_at(alloc, rest, *c)?)?;
+        name = name_beside(alloc, rest, *c, at, &name)?;
+        at = *c;
+        list.push(name.copy(alloc)?)?;
     }
     Ok(list)
 }
@@ -72,17 +76,51 @@ pub fn name_at<B: Body>(alloc: Global, rest: &RestWords<B>, c: CellId) -> Result
     requires named { (born : List Reference) × AreNamed rest.now.cells born }
     ensures { IfOk result (λ name. name ≡ name_by rest.now.cells c.0) }
 {
-    let parts = parts_of(alloc, rest, c)?;
-    name_with(alloc, parts.as_slice())
+    name_beside(alloc, rest, c, CellId(0), &Name::root())
 }
 
-/// The name with these numbers.
-fn name_with(alloc: Global, parts: &[u32]) -> Result<Name, Oom>
-    ensures { IfOk result (λ name. name ≡ parts.now) }
+/// The name of a cell. It shares with the name of another one those of the makers that both have in
+/// common.
+// Of the two cells it goes up from the one with the greater number, till they are the same: a maker
+// has a smaller number than what it made.
+fn name_beside<B: Body>(
+    alloc: Global,
+    rest: &RestWords<B>,
+    c: CellId,
+    other: CellId,
+    name: &Name,
+) -> Result<Name, Oom>
+    requires there { c.0 < length rest.now.cells }
+    requires other { other.0 < length rest.now.cells }
+    requires name { name.now ≡ name_by rest.now.cells other.0 }
+    requires named { (born : List Reference) × AreNamed rest.now.cells born }
+    ensures { IfOk result (λ found. found ≡ name_by rest.now.cells c.0) }
 {
-    let mut name = Name::root();
-    for k in parts {
-        name = name.child(alloc, *k)?;
+    let mut parts = Vec::new(alloc);
+    let mut at = c.0;
+    let mut beside = other.0;
+    let mut common = name;
+    while at != beside {
+        if at < beside {
+            beside = rest.cell(CellId(beside)).parent.0;
+            common = maker_of(common);
+        } else {
+            let cell = rest.cell(CellId(at));
+            parts.push(cell.kid)?;
+            at = cell.parent.0;
+        }
     }
-    Ok(name)
+    parts.reverse();
+    common.descendant(alloc, parts.as_slice())
+}
+
+/// The name of the maker of what is named.
+fn maker_of(name: &Name) -> &Name
+    requires { 0 < length name.now }
+    ensures { (k : ℕ) × (name.now ≡ result.now ++ k ∷ []) }
+{
+    match name.split_last() {
+        Some((_, maker)) => maker,
+        None => name,
+    }
 }

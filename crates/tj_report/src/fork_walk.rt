@@ -9,8 +9,7 @@ ghost use Rattle.tj_report.specs.Inner.CellNamesBy.{name_by};
 ghost use Rattle.tj_report.specs.Inner.WalkedReports.{IsForkOf, IsPrintedAfter};
 ghost use Rattle.tj_words.specs.AtRest.ClosedCells.{AreNamed};
 
-use crate::shown_names::add_parts;
-use itoa::Buffer;
+use crate::shown_names::{add_parts, cut_part};
 use std::alloc::Global;
 use tj_base::{CellId, Oom};
 use tj_body::Body;
@@ -129,15 +128,4 @@ fn number_of<B: Body>(rest: &RestWords<B>, maker: u32, c: u32) -> Option<u32>
         return Some(cell.kid);
     }
     None
-}
-
-/// Cuts off the last part of a printed name.
-fn cut_part(number: u32, text: &mut Vec<u8>)
-    ensures { (name : List ℕ) → text.old.items ≡ name_text (name ++ number ∷ [])
-        → text.new.items ≡ name_text name }
-{
-    let mut buffer = Buffer::new();
-    let digits = buffer.format(number).as_bytes().len();
-    let left = text.len().saturating_sub(digits).saturating_sub(1);
-    text.truncate(left);
 }

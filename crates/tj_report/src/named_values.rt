@@ -42,15 +42,14 @@ pub fn value_named<B: Body>(
     ensures { let p = program_of B.places B.awaits B.left B.asks B.then rest.now.strict
         rest.now.root in IfOk result (IsOfName p rest.now.limit name.now) }
 {
-    let numbers = name.numbers(alloc)?;
-    let Some(c) = cell_named(rest, numbers.as_slice()) else {
+    let Some(c) = cell_named(rest, name) else {
         return Ok(None);
     };
     Ok(Some(became_at(alloc, rest, c)?))
 }
 
-/// The cell whose name has these numbers.
-fn cell_named<B: Body>(rest: &RestWords<B>, name: &[u32]) -> Option<CellId>
+/// The cell with this name.
+fn cell_named<B: Body>(rest: &RestWords<B>, name: &Name) -> Option<CellId>
     requires { (born : List Reference) × AreNamed rest.now.cells born }
     ensures { IsCellNamed rest.now.cells name.now result }
 {
@@ -62,26 +61,26 @@ fn cell_named<B: Body>(rest: &RestWords<B>, name: &[u32]) -> Option<CellId>
     None
 }
 
-/// Whether the name of the cell has these numbers.
-fn is_named<B: Body>(rest: &RestWords<B>, c: CellId, parts: &[u32]) -> bool
+/// Whether the cell has this name: compared from the last number on, up to the first that differs.
+fn is_named<B: Body>(rest: &RestWords<B>, c: CellId, name: &Name) -> bool
     requires there { c.0 < length rest.now.cells }
     requires named { (born : List Reference) × AreNamed rest.now.cells born }
-    ensures { IsTrue result ↔ (name_by rest.now.cells c.0 ≡ parts.now) }
+    ensures { IsTrue result ↔ (name_by rest.now.cells c.0 ≡ name.now) }
 {
     let mut at = c.0;
-    let mut left = parts;
+    let mut left = name;
     while at > 0 {
         let cell = rest.cell(CellId(at));
         let Some((last, before)) = left.split_last() else {
             return false;
         };
-        if *last != cell.kid {
+        if last != cell.kid {
             return false;
         }
         left = before;
         at = cell.parent.0;
     }
-    left.is_empty()
+    left.depth() == 0
 }
 
 /// What became of a cell.

@@ -1,10 +1,10 @@
 //! The report of an outcome: lines for each task in turn, a line for each cycle, and a last line.
 //! Each function adds its part to the text.
-ghost use Rattle.std.specs.Prelude.{◌≡◌, ◌++◌, codes, IfOk};
+ghost use Rattle.std.specs.Prelude.{[], ◌≡◌, ◌++◌, codes, IfOk};
 ghost use Rattle.std.specs.List.{flat_map, join_by};
 ghost use Rattle.tj_base.specs.Texts.{name_text};
 ghost use Rattle.tj_mean.specs.ReportTexts.{shown_text, cause_text, ending_text, print_line};
-ghost use Rattle.tj_mean.specs.ReportTexts.{owes_line, lines_of, alarm_line, report};
+ghost use Rattle.tj_mean.specs.ReportTexts.{owes_line, lines_of, task_lines, alarm_line, report};
 ghost use Rattle.tj_mean.specs.ReportTexts.{verdict_line};
 ghost use Rattle.tj_mean.specs.Outcomes.{is_marked};
 
@@ -19,14 +19,7 @@ pub fn report_text(alloc: Global, o: &Outcome) -> Result<Vec<u8>, Oom>
     ensures { IfOk result (λ text. text.items ≡ report o.now) }
 {
     let mut text = Vec::new(alloc);
-    let mut name = Vec::from_slice(alloc, b"0")?;
-    let mut shown = Vec::new(alloc);
-    for line in o.lines.items() {
-        let numbers = line.name.numbers(alloc)?;
-        go_to(shown.as_slice(), numbers.as_slice(), &mut name)?;
-        shown = numbers;
-        add_task(alloc, name.as_slice(), line, &mut text)?;
-    }
+    add_tasks(alloc, &Name::root(), o.lines.items(), &mut text)?;
     for links in o.cycles.items() {
         add_alarm(alloc, links.items(), &mut text)?;
     }
@@ -49,6 +42,26 @@ pub fn add_last(marked: bool, text: &mut Vec<u8>) -> Result<(), Oom>
 {
     let verdict: &[u8] = if marked { b"marked\n" } else { b"clean\n" };
     text.extend_from_slice(verdict)?;
+    Ok(())
+}
+
+/// Adds the lines of each task. It is told of the root's name, from which it goes on.
+fn add_tasks<'n>(
+    alloc: Global,
+    root: &'n Name,
+    lines: &'n [TaskLine],
+    text: &mut Vec<u8>,
+) -> Result<(), Oom>
+    requires { root.now ≡ [] }
+    ensures { IfOk result (λ _. text.new.items ≡ text.old.items ++ flat_map task_lines lines.now) }
+{
+    let mut name = Vec::from_slice(alloc, b"0")?;
+    let mut last = root;
+    for line in lines {
+        go_to(alloc, last, &line.name, &mut name)?;
+        last = &line.name;
+        add_task(alloc, name.as_slice(), line, text)?;
+    }
     Ok(())
 }
 

@@ -1,49 +1,55 @@
-//! The printed name of a task, made from that of the task before it: what both names begin with
-//! stays.
-ghost use Rattle.std.specs.Prelude.{◌≡◌, ◌≤◌, ◌++◌, length, take, IfOk};
+//! The printed name of a task, made from that of the task in the line before: the text of what both
+//! names begin with stays.
+ghost use Rattle.std.specs.Prelude.{[], ◌∷◌, ◌≡◌, ◌++◌, List, ℕ, IfOk};
 ghost use Rattle.tj_base.specs.Texts.{name_text, parts_text};
 
 use itoa::Buffer;
-use tj_base::Oom;
+use std::alloc::Global;
+use tj_base::{Name, Oom};
 
 /// Makes the printed name `text` of the first name that of the second.
-pub fn go_to(from: &[u32], to: &[u32], text: &mut Vec<u8>) -> Result<(), Oom>
+// In a report the maker of a task is the task in the line before, or above that.
+pub fn go_to(alloc: Global, from: &Name, to: &Name, text: &mut Vec<u8>) -> Result<(), Oom>
     requires { text.old.items ≡ name_text from.now }
     ensures { IfOk result (λ _. text.new.items ≡ name_text to.now) }
 {
-    let kept = shared(from, to);
-    cut_back(from, kept, text);
-    add_parts(&to[kept..], text)?;
-    Ok(())
-}
-
-/// With how many equal numbers the names begin.
-fn shared(a: &[u32], b: &[u32]) -> usize
-    ensures first { result ≤ length a.now }
-    ensures second { result ≤ length b.now }
-    ensures same { take result a.now ≡ take result b.now }
-{
-    let mut n = 0;
-    while n < a.len() && n < b.len() && a[n] == b[n] {
-        n += 1;
+    let Some((number, maker)) = to.split_last() else {
+        text.clear();
+        return to.text_into(alloc, text);
+    };
+    let above = cut_back(from, maker.depth(), text);
+    if *above != *maker {
+        text.clear();
+        maker.text_into(alloc, text)?;
     }
-    n
+    add_parts(&[number], text)
 }
 
-/// Leaves of the printed name what its first numbers give.
-fn cut_back(name: &[u32], kept: usize, text: &mut Vec<u8>)
-    requires kept { kept ≤ length name.now }
-    requires text { text.old.items ≡ name_text name.now }
-    ensures { text.new.items ≡ name_text (take kept name.now) }
+/// Leaves of the printed name that of its maker, or of a maker above, with at most so many numbers.
+fn cut_back<'n>(name: &'n Name, depth: usize, text: &mut Vec<u8>) -> &'n Name
+    requires { text.old.items ≡ name_text name.now }
+    ensures { text.new.items ≡ name_text result.now }
+{
+    let mut at = name;
+    while depth < at.depth() {
+        let Some((number, maker)) = at.split_last() else {
+            return at;
+        };
+        cut_part(number, text);
+        at = maker;
+    }
+    at
+}
+
+/// Cuts off the last part of a printed name.
+pub fn cut_part(number: u32, text: &mut Vec<u8>)
+    ensures { (name : List ℕ) → text.old.items ≡ name_text (name ++ number ∷ [])
+        → text.new.items ≡ name_text name }
 {
     let mut buffer = Buffer::new();
-    let mut n = name.len();
-    while kept < n {
-        n -= 1;
-        let digits = buffer.format(name[n]).as_bytes().len();
-        let left = text.len().saturating_sub(digits).saturating_sub(1);
-        text.truncate(left);
-    }
+    let digits = buffer.format(number).as_bytes().len();
+    let left = text.len().saturating_sub(digits).saturating_sub(1);
+    text.truncate(left);
 }
 
 /// Adds further numbers of the name.

@@ -77,31 +77,27 @@ const PAIRS: &[Pair<'static>] = &[
     ),
 ];
 
-/// How many numbers long names have. A piece of a name has 64 of them: these are the last numbers of
-/// pieces, and the first ones of the next.
+/// How many numbers long names have. Those of 64 and of 128 have a leap over the last 64, and those
+/// of 65 and of 129 are made of them.
 const LENGTHS: &[usize] = &[64, 65, 128, 129];
 
 pub(crate) fn name(rt: &impl Abort, alloc: Global, numbers: &[u32]) -> Name {
-    let mut name = Name::root();
-    for number in numbers {
-        let Ok(child) = name.child(alloc, *number) else {
-            panic!(rt; "no memory");
-        };
-        name = child;
-    }
+    let Ok(name) = Name::root().descendant(alloc, numbers) else {
+        panic!(rt; "no memory");
+    };
     name
 }
 
 /// Whether the name has these numbers.
 pub(crate) fn is_name(name: &Name, numbers: &[u32]) -> bool {
-    let mut left = name.parts();
+    let mut left = name;
     for number in numbers.iter().rev() {
         match left.split_last() {
             Some((last, before)) if last == *number => left = before,
             _ => return false,
         }
     }
-    left.len() == 0
+    left.depth() == 0
 }
 
 /// Asserts that the name of these numbers is printed so, behind what stands there.

@@ -2,9 +2,9 @@
 use Rattle.std.proofs.Common.{◌≡◌, ℕ, zero, suc, ◌-◌, ◌<◌, ◌≤◌, List, [], ◌∷◌, ◌++◌, Option, Result, Ok, Err}
 use Rattle.std.proofs.Common.{IfOk, length}
 use Rattle.std.proofs.Common.{reverse, refl, sym, ap, ◌∙◌, subst, inl, inr, arith}
-use Rattle.std.proofs.Common.{length-append}
+use Rattle.std.proofs.Common.{◌↔◌, length-append}
 use Rattle.std.proofs.Math.Option.{some-injective, some-ne-none}
-use Rattle.std.proofs.lemmas.List.{reverse-append}
+use Rattle.std.proofs.lemmas.List.{append-nil, append_cancel_right, reverse-append}
 use Rattle.tj_base.specs.ForkOrder.{Name, child}
 use Rattle.tj_base.specs.declared.memory.Oom.{Oom}
 use Rattle.tj_body.specs.History.{to_task}
@@ -19,7 +19,7 @@ use Rattle.tj_words.specs.SeatViews.SeenWords.{FindsWord, MayReadTree, seen_word
 use Rattle.tj_words.specs.declared.offsets.Once.TheVariants as once
 use Rattle.tj_record.specs.declared.record.Rec.{Rec}
 use Rattle.tj_words.specs.declared.view.View.{View}
-use Rattle.tj_told.specs.Observers.{KnowsName, LooksOn, Observes}
+use Rattle.tj_told.specs.Observers.{KnowsCell, KnowsName, LooksOn, Observes, SeesMaker}
 use Rattle.tj_words.specs.declared.table.Laid.{Laid}
 use Rattle.std.proofs.lemmas.List.{append_assoc}
 use Rattle.std.proofs.Common.{◌≢◌}
@@ -49,6 +49,25 @@ cell_on xs ys c x b h = subst (λ z. IsCell z c x) (sym b.1) (cell_in_front xs b
 moved : {A : Type 0} (xs : List A) (x : A) (ys : List A) → xs ++ x ∷ ys ≡ (xs ++ x ∷ []) ++ ys
 moved [] x ys = refl
 moved (z ∷ zs) x ys = ap (λ l. z ∷ l) (moved zs x ys)
+
+-- a number at the end of a list stands in front of those that are listed from the end on
+last_first : (xs : List ℕ) (k : ℕ) (ks : List ℕ) → (xs ++ k ∷ []) ++ reverse ks ≡ xs ++ reverse (ks ++ k ∷ [])
+last_first xs k ks = sym (moved xs k (reverse ks)) ∙ ap (λ l. xs ++ l) (sym (reverse-append ks (k ∷ [])))
+
+-- a list with an element at its end isn't the empty one, and equal lists have equal ends
+end_some : (xs : List ℕ) (x : ℕ) → xs ++ x ∷ [] ≢ []
+end_some xs x e = let a = length-append xs (x ∷ []) in let b = ap (λ (l : List ℕ). length l) e in omega arith
+
+end_same : (xs ys : List ℕ) (x y : ℕ) → xs ++ x ∷ [] ≡ ys ++ y ∷ [] → x ≡ y
+end_same [] [] x y e = cc
+end_same [] (b ∷ ys) x y e = let t : [] ≡ ys ++ y ∷ [] = cc in absurd (end_some ys y (sym t))
+end_same (a ∷ xs) [] x y e = let t : xs ++ x ∷ [] ≡ [] = cc in absurd (end_some xs x t)
+end_same (a ∷ xs) (b ∷ ys) x y e = let t : xs ++ x ∷ [] ≡ ys ++ y ∷ [] = cc in end_same xs ys x y t
+
+-- where nothing is left in front, a list is what stands behind
+nothing_left : (left rest whole : List ℕ) → whole ≡ left ++ rest → length left ≡ 0 → whole ≡ rest
+nothing_left [] rest whole e z = e
+nothing_left (x ∷ left) rest whole e z = absurd (omega arith)
 
 -- a log with one step more goes on
 pub grows_by : {a b : List Entry} {e : Entry} → b ≡ e ∷ a → GrowsTo a b
@@ -89,22 +108,6 @@ pub name_where : (seen more : List SeenWord) → ((w : SeenWord) → IsIn w seen
 name_where seen more f c q h = (h.0, climbs_where seen more f c h.0 0 h.1, h.2)
 
 module _ {B : Type 0} where
-  -- the seat has come up from cell c to this one: the name of c is that of this cell and the numbers so far, the last
-  -- one first
-  pub record Climbs (cells : ℕ) (old now : SeatShown (Option (Rec B)) (View B)) (c at : ℕ) (parts : List ℕ) : Type 0
-    where
-      pub same : IsSameSeat old now
-      pub keeps : Keeps old.me.0 now.me.0
-      pub below : at < cells
-      pub may : MayReadTree at now.me.0
-      pub from : Reference
-      pub here : Reference
-      pub from_is : IsCell now.me.0.born c from
-      pub here_is : IsCell now.me.0.born at here
-      pub name : from.name ≡ here.name ++ reverse parts
-      pub log : GrowsTo old.log now.log
-      pub climbs : ClimbsTo now.me.0.seen c parts at
-
   pub same_on : (a b c : SeatShown (Option (Rec B)) (View B)) → IsSameSeat a b → IsSameSeat b c → IsSameSeat a c
   same_on a b c p q = (q.0 ∙ p.0, q.1 ∙ p.1, q.2 ∙ p.2)
 
@@ -146,40 +149,81 @@ module _ {B : Type 0} where
       (parent : FindsWord cells once.Parent at p now.me.0 mid.me.0) (second : IsSameSeat mid new)
       (kid : FindsWord cells once.Kid at k mid.me.0 new.me.0)
       (logged : GrowsTo now.log mid.log) (then : GrowsTo mid.log new.log) where
-    both_keep : Keeps now.me.0 new.me.0
-    both_keep = keeps_on now.me.0 mid.me.0 new.me.0 (keeps_word cells once.Parent at p now.me.0 mid.me.0 parent)
-        (keeps_word cells once.Kid at k mid.me.0 new.me.0 kid)
+    -- the seat knows what it knew
+    pub both_looked : LooksOn now new
+    both_looked = looks_then now mid new
+        (looks_then now now mid (looks_itself now) first (keeps_word cells once.Parent at p now.me.0 mid.me.0 parent)
+        logged)
+        second (keeps_word cells once.Kid at k mid.me.0 new.me.0 kid) then
 
-    parent_in : IsIn (seen_word at once.Parent p) new.me.0.seen
-    parent_in = subst (λ (z : View B). IsIn (seen_word at once.Parent p) z.seen) (sym kid.view)
-        (inr (subst (λ (z : View B). IsIn (seen_word at once.Parent p) z.seen) (sym parent.view) (inl refl)))
+    -- and sees the maker
+    pub maker_seen : (maker : ℕ) → maker ≡ p - 1 → SeesMaker cells at maker k new.me.0
+    maker_seen maker e = record {
+      parent = p;
+      leads = e;
+      parent_seen = subst (λ (z : View B). IsIn (seen_word at once.Parent p) z.seen) (sym kid.view)
+          (inr (subst (λ (z : View B). IsIn (seen_word at once.Parent p) z.seen) (sym parent.view) (inl refl)));
+      kid_seen = subst (λ (z : View B). IsIn (seen_word at once.Kid k) z.seen) (sym kid.view) (inl refl);
+      names = kid.names;
+      few = subst (λ (z : View B). length z.born ≤ cells) (sym kid.view) kid.all.few;
+    }
 
-    kid_in : IsIn (seen_word at once.Kid k) new.me.0.seen
-    kid_in = subst (λ (z : View B). IsIn (seen_word at once.Kid k) z.seen) (sym kid.view) (inl refl)
+  -- the seat has come up from cell c to this one: the name of c is that of this cell and the numbers so far, the last
+  -- one first
+  pub record Climbs (cells : ℕ) (old now : SeatShown (Option (Rec B)) (View B)) (c at : ℕ) (parts : List ℕ) : Type 0
+    where
+      pub looks : LooksOn old now
+      pub below : at < cells
+      pub may : MayReadTree at now.me.0
+      pub from : Reference
+      pub here : Reference
+      pub from_is : IsCell now.me.0.born c from
+      pub here_is : IsCell now.me.0.born at here
+      pub name : from.name ≡ here.name ++ reverse parts
+      pub climbs : ClimbsTo now.me.0.seen c parts at
 
+  -- at its beginning
+  pub climbs_first : (cells : ℕ) (seat : SeatShown (Option (Rec B)) (View B)) (c : ℕ) → c < cells
+      → KnowsCell c seat.me.0 → Climbs cells seat seat c c []
+  climbs_first cells seat c there knows = record {
+    looks = looks_itself seat;
+    below = there;
+    may = inr (inl knows.0);
+    from = knows.1.0;
+    here = knows.1.0;
+    from_is = knows.1.1;
+    here_is = knows.1.1;
+    name = sym (append-nil knows.1.0.name);
+    climbs = refl;
+  }
+
+  -- the seat has looked on, and sees the maker of a cell
+  module _ (cells at maker k : ℕ) (now new : SeatShown (Option (Rec B)) (View B)) (looks : LooksOn now new)
+      (m : SeesMaker cells at maker k new.me.0) (later : 0 < at) where
     -- the name of the cell is that of its maker and its number
-    maker_is : (here : Reference) → IsCell now.me.0.born at here → 0 < at
-        → (y : Reference) × IsCell new.me.0.born (p - 1) y × (here.name ≡ child y.name k)
-    maker_is here h later = kid.names.named at p k here (λ e. let z : at ≡ 0 = e in omega arith) parent_in kid_in
-        (cell_on now.me.0.born new.me.0.born at here both_keep.more.born h)
+    maker_is : (here : Reference) → IsCell now.me.0.born at here
+        → (y : Reference) × IsCell new.me.0.born maker y × (here.name ≡ child y.name k)
+    maker_is here h =
+        subst (λ n. (y : Reference) × IsCell new.me.0.born n y × (here.name ≡ child y.name k)) (sym m.leads)
+        (m.names.named at m.parent k here (λ e. let z : at ≡ 0 = e in omega arith) m.parent_seen m.kid_seen
+        (cell_on now.me.0.born new.me.0.born at here looks.more.born h))
 
     -- which is shorter
-    pub shorter : (here : Reference) → IsCell now.me.0.born at here → 0 < at → (next : ℕ) → next ≡ p - 1
-        → length (reference_of new.me.0.born next).name < length (reference_of now.me.0.born at).name
-    shorter here h later next e =
-        let m = maker_is here h later in
-        let long = ap (λ (q : Name). length q) m.2 ∙ length-append m.0.name (k ∷ []) in
-        subst (λ n. length (reference_of new.me.0.born n).name < length (reference_of now.me.0.born at).name) (sym e)
-        (subst (λ (z : Reference). length z.name < length (reference_of now.me.0.born at).name)
-        (sym (cell_reference new.me.0.born (p - 1) m.0 m.1))
-        (subst (λ (z : Reference). length m.0.name < length z.name)
-        (sym (cell_reference now.me.0.born at here h)) (omega arith)))
+    pub shorter : (here : Reference) → IsCell now.me.0.born at here
+        → length (reference_of new.me.0.born maker).name < length (reference_of now.me.0.born at).name
+    shorter here h =
+        let y = maker_is here h in
+        let long = ap (λ (q : Name). length q) y.2 ∙ length-append y.0.name (k ∷ []) in
+        subst (λ (z : Reference). length z.name < length (reference_of now.me.0.born at).name)
+        (sym (cell_reference new.me.0.born maker y.0 y.1))
+        (subst (λ (z : Reference). length y.0.name < length z.name)
+        (sym (cell_reference now.me.0.born at here h)) (omega arith))
 
-    named_next : (n next : ℕ) → p ≡ n → next ≡ n - 1 → MayReadTree next new.me.0
-    named_next zero next e f = inl (omega arith)
-    named_next (suc q) next e f = let z : p ≡ suc next = omega arith in inr (inr (
-      seen_word at once.Parent p,
-      parent_in,
+    may_read : (p : ℕ) → m.parent ≡ p → MayReadTree maker new.me.0
+    may_read zero e = let l = m.leads in inl (omega arith)
+    may_read (suc q) e = let l = m.leads in let z : m.parent ≡ suc maker = omega arith in inr (inr (
+      seen_word at once.Parent m.parent,
+      m.parent_seen,
       (inl refl, z),
     ))
 
@@ -187,37 +231,59 @@ module _ {B : Type 0} where
         (i : Climbs cells old now c at parts) where
       -- the seat knows what it knew
       pub looked : LooksOn old new
-      looked = let k = keeps_on old.me.0 now.me.0 new.me.0 i.keeps both_keep in record {
-        same = same_on old now new i.same (same_on now mid new first second);
-        idle = k.idle;
-        more = k.more;
-        log = grows_on old.log now.log new.log i.log (grows_on now.log mid.log new.log logged then);
-      }
+      looked = looks_on old now new i.looks looks
 
       -- and has come up to the maker
-      pub climbs_on : 0 < at → (next : ℕ) → next ≡ p - 1 → (more : List ℕ) → more ≡ parts ++ k ∷ []
-          → Climbs cells old new c next more
-      climbs_on later next e more pushed = let m = maker_is i.here i.here_is later in record {
-        same = looked.same;
-        keeps = record { idle = looked.idle; more = looked.more };
-        below = let room = inside new.me.0.born (p - 1) m.0 m.1 in
-            let few = subst (λ (z : View B). length z.born ≤ cells) (sym kid.view) kid.all.few in omega arith;
-        may = named_next p next refl e;
+      pub climbs_on : (more : List ℕ) → more ≡ parts ++ k ∷ [] → Climbs cells old new c maker more
+      climbs_on more pushed = let y = maker_is i.here i.here_is in record {
+        looks = looked;
+        below = let room = inside new.me.0.born maker y.0 y.1 in let few = m.few in omega arith;
+        may = may_read m.parent refl;
         from = i.from;
-        here = m.0;
-        from_is = cell_on now.me.0.born new.me.0.born c i.from both_keep.more.born i.from_is;
-        here_is = subst (λ n. IsCell new.me.0.born n m.0) (sym e) m.1;
+        here = y.0;
+        from_is = cell_on now.me.0.born new.me.0.born c i.from looks.more.born i.from_is;
+        here_is = y.1;
         name = i.name
-            ∙ ap (λ (n : Name). n ++ reverse parts) m.2
-            ∙ sym (moved m.0.name k (reverse parts))
-            ∙ ap (λ l. m.0.name ++ l) (sym (reverse-append parts (k ∷ [])) ∙ ap reverse (sym pushed));
-        log = looked.log;
-        climbs = subst (λ l. ClimbsTo new.me.0.seen c l next) (sym pushed)
-            (subst (ClimbsTo new.me.0.seen c (parts ++ k ∷ [])) (sym e)
-            (climbs_more new.me.0.seen c parts at p k
-            (climbs_where now.me.0.seen new.me.0.seen both_keep.more.seen c parts at i.climbs)
-            (λ z. let y : at ≡ 0 = z in omega arith) parent_in kid_in));
+            ∙ ap (λ (n : Name). n ++ reverse parts) y.2
+            ∙ last_first y.0.name k parts
+            ∙ ap (λ (l : List ℕ). y.0.name ++ reverse l) (sym pushed);
+        climbs = subst (λ l. ClimbsTo new.me.0.seen c l maker) (sym pushed)
+            (subst (ClimbsTo new.me.0.seen c (parts ++ k ∷ [])) (sym m.leads)
+            (climbs_more new.me.0.seen c parts at m.parent k
+            (climbs_where now.me.0.seen new.me.0.seen looks.more.seen c parts at i.climbs)
+            (λ z. let y : at ≡ 0 = z in omega arith) m.parent_seen m.kid_seen));
       }
+
+      -- a name of the cell, of which these numbers are the last ones, goes on with that of the maker and the number
+      name_left : (name left : Name) → name ≡ left ++ reverse parts → KnowsName c name new.me.0
+          → (y : Name) × (left ≡ y ++ k ∷ [])
+      name_left name left is knows = let y = maker_is i.here i.here_is in
+          let from = cell_on now.me.0.born new.me.0.born c i.from looks.more.born i.from_is in
+          let same : i.from ≡ knows.0 = some-injective i.from knows.0 (sym from ∙ knows.1) in (
+            y.0.name,
+            append_cancel_right left (y.0.name ++ k ∷ []) (reverse parts) (sym is
+                ∙ sym knows.2
+                ∙ ap (λ (x : Reference). x.name) (sym same)
+                ∙ i.name
+                ∙ ap (λ (n : Name). n ++ reverse parts) y.2),
+          )
+
+      -- so the cell hasn't the name where no number is left, or another one
+      pub none_left : (name left : Name) → name ≡ left ++ reverse parts → left ≡ [] → ¬ KnowsName c name new.me.0
+      none_left name left is none knows = let y = name_left name left is knows in
+          end_some y.0 k (sym y.1 ∙ none)
+
+      pub other_left : (name left before : Name) (last : ℕ) → name ≡ left ++ reverse parts → left ≡ before ++ last ∷ []
+          → last ≢ k → ¬ KnowsName c name new.me.0
+      other_left name left before last is split other knows = let y = name_left name left is knows in
+          other (end_same before y.0 last k (sym split ∙ y.1))
+
+      -- where it is this one, the name goes on with what stands before it
+      pub left_on : (name left before : Name) (last : ℕ) → name ≡ left ++ reverse parts → left ≡ before ++ last ∷ []
+          → last ≡ k → name ≡ before ++ reverse (parts ++ k ∷ [])
+      left_on name left before last is split same = is
+          ∙ ap (λ (n : Name). n ++ reverse parts) (split ∙ ap (λ n. before ++ n ∷ []) same)
+          ∙ last_first before k parts
 
   -- at the root
   module _ (cells : ℕ) (old now : SeatShown (Option (Rec B)) (View B)) (c at : ℕ) (parts : List ℕ)
@@ -226,10 +292,13 @@ module _ {B : Type 0} where
     whole : i.from.name ≡ reverse parts
     whole =
         let z : at ≡ 0 = omega arith in
-        let r = cell_on old.me.0.born now.me.0.born 0 (to_task []) i.keeps.more.born root in
+        let r = cell_on old.me.0.born now.me.0.born 0 (to_task []) i.looks.more.born root in
         let here = subst (λ n. IsCell now.me.0.born n i.here) z i.here_is in
         let is : i.here ≡ to_task [] = some-injective i.here (to_task []) (sym here ∙ r) in
         i.name ∙ ap (λ (x : Reference). x.name ++ reverse parts) is
+
+    sees_whole : SeesName now.me.0.seen c (reverse parts)
+    sees_whole = let z : at ≡ 0 = omega arith in (parts, subst (ClimbsTo now.me.0.seen c parts) z i.climbs, refl)
 
     pub climbed : (r : Result Name Oom) (text : List ℕ) → text ≡ reverse parts → IfOk r (λ q. q ≡ text)
         → IfOk r (λ q. KnowsName c q now.me.0)
@@ -238,6 +307,24 @@ module _ {B : Type 0} where
 
     pub climbed_seen : (r : Result Name Oom) (text : List ℕ) → text ≡ reverse parts → IfOk r (λ q. q ≡ text)
         → IfOk r (λ q. SeesName now.me.0.seen c q)
-    climbed_seen (Ok q) text e h =
-        let z : at ≡ 0 = omega arith in (parts, subst (ClimbsTo now.me.0.seen c parts) z i.climbs, h ∙ e)
+    climbed_seen (Ok q) text e h = subst (SeesName now.me.0.seen c) (sym (h ∙ e)) sees_whole
     climbed_seen (Err f) text e h = tt
+
+    -- a name of which these numbers are the last ones is the cell's exactly where no number is left of it
+    pub named_here : (name left : Name) → name ≡ left ++ reverse parts → (length left ≡ 0) ↔ KnowsName c name now.me.0
+    named_here name left is = (none, some)
+      where
+        none : length left ≡ 0 → KnowsName c name now.me.0
+        none z = (i.from, i.from_is, whole ∙ sym (nothing_left left (reverse parts) name is z))
+
+        some : KnowsName c name now.me.0 → length left ≡ 0
+        some knows =
+            let same : i.from ≡ knows.0 = some-injective i.from knows.0 (sym i.from_is ∙ knows.1) in
+            let e = sym is ∙ sym knows.2 ∙ ap (λ (x : Reference). x.name) (sym same) ∙ whole in
+            let a = length-append left (reverse parts) in
+            let b = ap (λ (l : List ℕ). length l) e in
+            omega arith
+
+    pub seen_here : (name left : Name) → name ≡ left ++ reverse parts → length left ≡ 0
+        → SeesName now.me.0.seen c name
+    seen_here name left is z = subst (SeesName now.me.0.seen c) (sym (nothing_left left (reverse parts) name is z)) sees_whole

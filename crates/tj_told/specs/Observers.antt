@@ -1,5 +1,5 @@
 -- The seat of an observer: what it knows of the cells that it has looked at.
-use Rattle.std.specs.Prelude.{◌≡◌, ℕ, [], Option}
+use Rattle.std.specs.Prelude.{◌≡◌, ◌-◌, ◌≤◌, ℕ, [], Option, length}
 use Rattle.tj_base.specs.ForkOrder.{Name}
 use Rattle.tj_body.specs.History.{to_task}
 use Rattle.tj_body.specs.Points.{IsIn}
@@ -11,7 +11,9 @@ use Rattle.tj_words.specs.declared.view.View.{View}
 use Rattle.tj_words.specs.LawParts.TreeWords.{IsCell}
 use Rattle.tj_words.specs.SeatViews.KnowsMore.{KnowsMore}
 use Rattle.tj_words.specs.SeatViews.SeatSteps.{IsSameSeat, IsSeatOf}
+use Rattle.tj_words.specs.SeatViews.SeenWords.{SeesNames, seen_word}
 use Rattle.tj_words.specs.SeatViews.Views.{IsIdle}
+use Rattle.tj_words.specs.declared.offsets.Once.TheVariants as once
 use Rattle.tj_told.specs.ToldLoads.{GrowsTo}
 
 module _ {B : Type 0} where
@@ -36,3 +38,13 @@ module _ {B : Type 0} where
   -- the seat knows the cell, and what it is
   abbrev pub KnowsCell : ℕ → View B → Type 0
   KnowsCell c v = IsIn c v.known × ((x : Reference) × IsCell v.born c x)
+
+  -- the seat has seen PARENT of the cell, which leads to this maker, and this number as its KID; such words tell names,
+  -- and what it knows are cells of the table
+  pub record SeesMaker (cells c maker k : ℕ) (v : View B) : Type 0 where
+    pub parent : ℕ
+    pub leads : maker ≡ parent - 1
+    pub parent_seen : IsIn (seen_word c once.Parent parent) v.seen
+    pub kid_seen : IsIn (seen_word c once.Kid k) v.seen
+    pub names : SeesNames v.seen v.born
+    pub few : length v.born ≤ cells

@@ -13,6 +13,7 @@ mod observer;
 mod run;
 mod script;
 mod settling;
+mod shared_makers;
 mod telling;
 mod values;
 mod watch;

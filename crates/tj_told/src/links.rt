@@ -1,13 +1,15 @@
 //! The cycle of waits that a task is on, by loads of PHASE and OWN in turn.
-ghost use Rattle.std.specs.Prelude.{◌<◌, IfOk, IfSome};
+ghost use Rattle.std.specs.Prelude.{◌≡◌, ◌<◌, ◌++◌, [], ◌∷◌, List, IfOk, IfSome};
+ghost use Rattle.tj_base.specs.ForkOrder as fork;
+ghost use Rattle.tj_mean.specs.declared.outcome.Link.{Link};
 ghost use Rattle.tj_words.specs.SeatViews.SeatSteps.{IsCellOf};
 ghost use Rattle.tj_told.specs.Observers.{LooksOn, Observes};
 ghost use Rattle.tj_told.specs.ToldLinks.{FindsTurn, IsFromLeast, IsSeenRound};
 ghost use Rattle.tj_told.specs.ToldLoads.{HasSeenAlarm};
 
-use crate::names::name_at;
+use crate::names::name_beside;
 use std::alloc::Global;
-use tj_base::{CellId, Items, MAX_CELLS, Oom, name_cmp};
+use tj_base::{CellId, Items, MAX_CELLS, Name, Oom, name_cmp};
 use tj_body::Body;
 use tj_mean::{Link, LinkList};
 use tj_words::{Laid, Phase, WSeat};
@@ -29,7 +31,8 @@ pub(crate) fn cycle_of<B: Body>(
     let mut links = Vec::new(alloc);
     let mut task = t;
     for _i in 0..MAX_CELLS {
-        let Some(found) = link_of(alloc, laid, seat, task)? else {
+        let other = last_task(links.as_slice());
+        let Some(found) = link_of(alloc, laid, seat, task, other)? else {
             return Ok(None);
         };
         let (link, owner) = found;
@@ -42,12 +45,25 @@ pub(crate) fn cycle_of<B: Body>(
     Ok(None)
 }
 
-/// The task with the cell that it waits for, by names, and the owner of that cell.
+/// The task of the last link.
+fn last_task(links: &[Link]) -> Option<&Name>
+    ensures { IfSome result (λ name. (before : List Link) × (cell : fork.Name)
+        × (links.now ≡ before ++ record { task = name.now; cell = cell } ∷ [])) }
+{
+    match links.last() {
+        Some(link) => Some(&link.task),
+        None => None,
+    }
+}
+
+/// The task with the cell that it waits for, by names, which share makers with the other name, and the
+/// owner of that cell.
 fn link_of<B: Body>(
     alloc: Global,
     laid: &Laid<B>,
     seat: &mut WSeat<B>,
     t: CellId,
+    other: Option<&Name>,
 ) -> Result<Option<(Link, CellId)>, Oom>
     requires seat { Observes laid.now seat.old }
     requires cell { IsCellOf laid.now t.0 }
@@ -62,8 +78,8 @@ fn link_of<B: Body>(
     let Some(owner) = laid.see_owner(seat, cell, None) else {
         return Ok(None);
     };
-    let task = name_at(alloc, laid, seat, t)?;
-    let cell = name_at(alloc, laid, seat, cell)?;
+    let task = name_beside(alloc, laid, seat, t, other)?;
+    let cell = name_beside(alloc, laid, seat, cell, Some(&task))?;
     Ok(Some((Link { task, cell }, owner)))
 }
 

@@ -1,7 +1,9 @@
 //! What a listener is told.
-ghost use Rattle.std.specs.Prelude.{◌≡◌};
+ghost use Rattle.std.specs.Prelude.{◌≡◌, ◌++◌, [], ◌∷◌, List, IfSome};
 ghost use Rattle.std.specs.List.{list_any};
 ghost use Rattle.tj_told.specs.ToldNews.{is_value};
+ghost use Rattle.tj_told.specs.declared.news.News.{News};
+ghost use Rattle.tj_told.specs.declared.news.News.TheVariants as told;
 
 use tj_base::{Items, Name, Shown};
 use tj_mean::LinkList;
@@ -34,5 +36,16 @@ fn is_value(news: &News) -> bool
     match news {
         News::Cycle(_) | News::Broken(_) => false,
         News::Value(_, _) => true,
+    }
+}
+
+/// The name that was told last, if it was that of a broken cell.
+pub(crate) fn broken_last(list: &[News]) -> Option<&Name>
+    ensures { IfSome result (λ name. (before : List News)
+        × (list.now ≡ before ++ told.Broken name.now ∷ [])) }
+{
+    match list.last() {
+        Some(News::Broken(name)) => Some(name),
+        _ => None,
     }
 }

@@ -16,7 +16,8 @@ ghost use Rattle.tj_words.specs.declared.phase.Walk.TheVariants as walk;
 use crate::links::cycle_of;
 use crate::listener::{Goes, Listener};
 use crate::looks::{Looks, Watch};
-use crate::names::name_at;
+use crate::names::name_beside;
+use crate::news::broken_last;
 use crate::telling::Telling;
 use crate::values::look_at_value;
 use std::alloc::Global;
@@ -183,7 +184,8 @@ fn look_at_broken<B: Body, T: Listener>(
         → IsStoppedOn T.tells telling.old telling.new (result ≡ Ok Goes.Stop) }
 {
     telling.meet(c)?;
-    let name = name_at(alloc, laid, seat, c)?;
+    let other = broken_last(telling.news.items());
+    let name = name_beside(alloc, laid, seat, c, other)?;
     telling.tell_broken(alloc, &name)
 }
 

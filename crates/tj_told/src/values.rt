@@ -1,12 +1,12 @@
 //! The value of a cell that is watched by its name.
-ghost use Rattle.std.specs.Prelude.{◌≡◌, ◌≢◌, Ok, IfOk, IfSome, true};
+ghost use Rattle.std.specs.Prelude.{◌≡◌, ◌≢◌, Ok, IfOk, IfSome};
 ghost use Rattle.tj_words.specs.SeatViews.SeatSteps.{IsCellOf};
 ghost use Rattle.tj_told.specs.Hearing.{HearsOn, IsStoppedOn};
 ghost use Rattle.tj_told.specs.Observers.{KnowsCell, LooksOn, Observes};
 ghost use Rattle.tj_told.specs.SeenNews.{AreSeen, HasSeenValue, IsNameOf, IsSeenAs};
 
 use crate::listener::{Goes, Listener};
-use crate::names::name_at;
+use crate::names::{has_name, name_at};
 use crate::telling::Telling;
 use std::alloc::Global;
 use tj_base::{CellId, Name, Oom, Shown};
@@ -57,18 +57,10 @@ fn value_if_named<B: Body>(
     ensures value { IfOk result (λ found. IfSome found (λ v. HasSeenValue c.0 wanted.now v
         seat.new.me.0)) }
 {
-    let name = name_at(alloc, laid, seat, c)?;
-    if !is_name(&name, wanted) {
+    if !has_name(laid, seat, c, wanted) {
         return Ok(None);
     }
     value_at(alloc, laid, seat, c)
-}
-
-/// Whether two names are equal.
-fn is_name(a: &Name, b: &Name) -> bool
-    ensures { result ≡ true → a.now ≡ b.now }
-{
-    a == b
 }
 
 /// The value of the cell, if it has one.

@@ -9,7 +9,7 @@ ghost use Rattle.tj_trace.specs.Lookups as spec;
 ghost use Rattle.std.specs.Prelude.{slice_get, List};
 
 use crate::line::{Maker, TraceLine};
-use tj_base::{Name, Parts};
+use tj_base::Name;
 use tj_lex::Place;
 use tj_mean::Ending;
 use tj_syntax::{ScriptPlaces, TaskPlaces};
@@ -20,7 +20,7 @@ pub fn line_of<'t>(lines: &'t [TraceLine], name: &Name) -> Option<&'t TraceLine>
     ensures { option_map (λ line. line.now) result
         ≡ find (λ line. same line.line.name name.now) lines.now }
 {
-    line_named(lines, &name.parts())
+    lines.iter().find(|line| line.line.name == *name)
 }
 
 /// The line of the task that owned the cell with this name where it stopped.
@@ -59,29 +59,21 @@ pub fn maker_of(lines: &[TraceLine], name: &Name) -> Option<Maker>
     ensures child { (maker : List ℕ) (k : ℕ) → name.now ≡ child maker k
         → result ≡ spec.made_by (find (λ line. same line.line.name maker) lines.now) k }
 {
-    match name.parts().split_last() {
-        Some((k, maker)) => made_in(lines, &maker, k),
+    match name.split_last() {
+        Some((k, maker)) => made_in(lines, maker, k),
         None => None,
     }
 }
 
 /// The statement that made the k-th thing of the task with this name.
-fn made_in(lines: &[TraceLine], maker: &Parts<'_>, k: u32) -> Option<Maker>
+fn made_in(lines: &[TraceLine], maker: &Name, k: u32) -> Option<Maker>
     ensures { result
         ≡ spec.made_by (find (λ line. same line.line.name maker.now) lines.now) k }
 {
-    match line_named(lines, maker) {
+    match line_of(lines, maker) {
         Some(line) => made_by(line, k),
         None => None,
     }
-}
-
-/// The line of the task with a name of these numbers.
-fn line_named<'t>(lines: &'t [TraceLine], name: &Parts<'_>) -> Option<&'t TraceLine>
-    ensures { option_map (λ line. line.now) result
-        ≡ find (λ line. same line.line.name name.now) lines.now }
-{
-    lines.iter().find(|line| line.line.name.parts().same(name))
 }
 
 /// The statement that made the k-th thing of the task.

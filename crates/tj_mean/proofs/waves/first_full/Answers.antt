@@ -1,11 +1,13 @@
-use Rattle.std.proofs.Common.{◌≡◌, suc, ◌+◌, ◌<◌, Bool, List, length, map, ap, ◌∙◌, subst, arith}
+use Rattle.std.proofs.Common.{◌≡◌, ℕ, suc, ◌+◌, ◌<◌, Bool, List, length, map, ◌∙◌, subst, arith}
 use Rattle.std.specs.Prelude.{IfNone, IfSome}
 use Rattle.tj_base.specs.ForkOrder.{Name}
+use Rattle.tj_body.specs.Points.{IsIn}
 use Rattle.tj_body.specs.Programs.{Program, AreLawful, program_of}
 use Rattle.tj_body.specs.Rounds.{cells}
 use Rattle.tj_body.specs.declared.point.Entry.{Entry}
 use Rattle.tj_body.proofs.Proper.{root_proper}
 use Rattle.tj_mean.specs.FirstFull.{IsFirstFull}
+use Rattle.tj_mean.specs.Inner.Agendas.{IsNotedAt}
 use Rattle.tj_mean.specs.Inner.Assignments.{assignment_in}
 use Rattle.tj_mean.specs.Inner.Waves.{IsWaveDone}
 use Rattle.tj_mean.proofs.RoundWaves.{first_after, not_full}
@@ -24,7 +26,7 @@ lawful g strict root = (g.met.B.Body g.world.𝓛 g.world.𝓜 g.world.𝓡 ((λ
 pub loop-round-init : goal.loop-round-init
 loop-round-init g c =
     first_begun (program g c.args.strict c.args.root.now) c.args.cells (assignment_in c.new-given.result)
-    c.new-news.result.items c.in_ok-points.points.items c.new-given.ensures c.in_ok-points.ensures
+    c.new-agenda.result c.in_ok-points.points.items c.new-given.ensures c.in_ok-points.ensures c.new-agenda.ensures
 
 pub returns-in_default-clause-some : goal.returns-in_default-clause-some
 returns-in_default-clause-some g c =
@@ -40,16 +42,14 @@ returns-then-len-cells-clause-some g c =
     let o = lawful g p.rules.strict p.root in
     let root = root_proper p c.requires.root in
     let done = subst (λ f. IfSome f (λ h. IsWaveDone p c.args.cells c.loop-round.round
-    (assignment_in c.loop-round.given) c.as_slice.result.now c.wave.new.points.items h.children.items h.writes.items))
-    c.in-Some.is c.in_ok-found.ensures.done in
-    let news = c.in_ok-news.ensures
-    ∙ ap (λ (l : List (Name × Entry)). map (λ (x : Name × Entry). x.0) l) c.as_slice-in-loop-round.ensures.value in
+    (assignment_in c.loop-round.given) c.wave.new.agenda c.wave.new.left c.wave.new.points.items h.children.items
+    h.writes.items)) c.in-Some.is c.in_ok-found.ensures.done in
     let size = c.len.ensures ∙ c.in-Some.handed.children.ok.0 in
     let many = c.if-len-cells.true in
     by_two (IsFirstFull p c.args.cells) c.loop-round.round
-    (next_full p o root c.args.cells c.loop-round.round (assignment_in c.loop-round.given) c.as_slice.result.now
-    c.wave.new.points.items c.in-Some.handed.children.items c.in-Some.handed.writes.items done
-    (assignment_in c.enter_all.new.given) c.in_ok-enter_all.ensures c.in_ok-news.news.items news (omega arith))
+    (next_full p o root c.args.cells c.loop-round.round (assignment_in c.loop-round.given) c.wave.new.agenda
+    c.wave.new.left c.wave.new.points.items c.in-Some.handed.children.items c.in-Some.handed.writes.items done
+    (assignment_in c.enter_all.new.given) c.in_ok-enter_all.ensures (omega arith))
 
 pub returns-then-len-cells-clause-entries : goal.returns-then-len-cells-clause-entries
 returns-then-len-cells-clause-entries g c =
@@ -57,16 +57,14 @@ returns-then-len-cells-clause-entries g c =
     let o = lawful g p.rules.strict p.root in
     let root = root_proper p c.requires.root in
     let done = subst (λ f. IfSome f (λ h. IsWaveDone p c.args.cells c.loop-round.round
-    (assignment_in c.loop-round.given) c.as_slice.result.now c.wave.new.points.items h.children.items h.writes.items))
-    c.in-Some.is c.in_ok-found.ensures.done in
-    let news = c.in_ok-news.ensures
-    ∙ ap (λ (l : List (Name × Entry)). map (λ (x : Name × Entry). x.0) l) c.as_slice-in-loop-round.ensures.value in
+    (assignment_in c.loop-round.given) c.wave.new.agenda c.wave.new.left c.wave.new.points.items h.children.items
+    h.writes.items)) c.in-Some.is c.in_ok-found.ensures.done in
     let two : c.loop-round.round + 1 + 1 ≡ suc (suc c.loop-round.round) = omega arith in (
       suc c.loop-round.round,
       two,
-      next_entered p o root c.args.cells c.loop-round.round (assignment_in c.loop-round.given) c.as_slice.result.now
-          c.wave.new.points.items c.in-Some.handed.children.items c.in-Some.handed.writes.items done
-          (assignment_in c.enter_all.new.given) c.in_ok-enter_all.ensures c.in_ok-news.news.items news,
+      next_entered p o root c.args.cells c.loop-round.round (assignment_in c.loop-round.given) c.wave.new.agenda
+          c.wave.new.left c.wave.new.points.items c.in-Some.handed.children.items c.in-Some.handed.writes.items done
+          (assignment_in c.enter_all.new.given) c.in_ok-enter_all.ensures,
     )
 
 pub loop-round-preserved : goal.loop-round-preserved
@@ -75,18 +73,20 @@ loop-round-preserved g c =
     let o = lawful g p.rules.strict p.root in
     let root = root_proper p c.requires.root in
     let done = subst (λ f. IfSome f (λ h. IsWaveDone p c.args.cells c.loop-round.round
-    (assignment_in c.loop-round.given) c.as_slice.result.now c.wave.new.points.items h.children.items h.writes.items))
-    c.in-Some.is c.in_ok-found.ensures.done in
-    let news = c.in_ok-news.ensures
-    ∙ ap (λ (l : List (Name × Entry)). map (λ (x : Name × Entry). x.0) l) c.as_slice-in-loop-round.ensures.value in
+    (assignment_in c.loop-round.given) c.wave.new.agenda c.wave.new.left c.wave.new.points.items h.children.items
+    h.writes.items)) c.in-Some.is c.in_ok-found.ensures.done in
+    let gone = subst (λ (l : List (Name × Entry)). (q : Name) (i : ℕ)
+    → IsIn q (map (λ (w : Name × Entry). w.0) l) → ¬ IsNotedAt c.wake.new.self.waiting q i)
+    c.as_slice.ensures.value c.in_ok-wake.ensures.gone in
     let size = c.len.ensures ∙ c.in-Some.handed.children.ok.0 in
     let few = c.if-len-cells.false in
-    by_one (λ k. IsRoundBegun p c.args.cells k (assignment_in c.enter_all.new.given) c.in_ok-news.news.items
+    by_one (λ k. IsRoundBegun p c.args.cells k (assignment_in c.enter_all.new.given) c.wake.new.self c.wave.new.left
     c.start_all.new.points.items) c.loop-round.round
-    (next_begun p o root c.args.cells c.loop-round.round (assignment_in c.loop-round.given) c.as_slice.result.now
-    c.wave.new.points.items c.in-Some.handed.children.items c.in-Some.handed.writes.items done
-    (assignment_in c.enter_all.new.given) c.in_ok-enter_all.ensures c.in_ok-news.news.items news
-    c.loop-round-test.true (omega arith) c.start_all.new.points.items c.in_ok-start_all.ensures)
+    (next_begun p o root c.args.cells c.loop-round.round (assignment_in c.loop-round.given) c.wave.new.agenda
+    c.wave.new.left c.wave.new.points.items c.in-Some.handed.children.items c.in-Some.handed.writes.items done
+    (assignment_in c.enter_all.new.given) c.in_ok-enter_all.ensures c.wake.new.self
+    (c.in_ok-wake.ensures.woken, gone, c.in_ok-wake.ensures.fresh) c.loop-round-test.true (omega arith)
+    c.start_all.new.points.items c.in_ok-start_all.ensures)
 
 pub returns-clause-none : goal.returns-clause-none
 returns-clause-none g c =

@@ -8,7 +8,7 @@ use Rattle.tj_mean.proofs.waves.first_full.Given as goal
 abbrev pub invariant-loop-round : goal.invariant-loop-round
 invariant-loop-round g l = let b = g.B.Body in
     IsRoundBegun (program_of b.places b.awaits b.left b.asks b.then l.strict l.root) l.cells l.round
-    (assignment_in l.given) l.news.items l.points.items
+    (assignment_in l.given) l.agenda l.left l.points.items
 
 abbrev pub decreases-loop-round : goal.decreases-loop-round
 decreases-loop-round g l = (2 * l.cells + 1) - l.round

@@ -25,63 +25,63 @@ returns-in_default-see_owner-clause-seat g c = let p = c.see_phase in let o = c.
     (after_phase c.args.laid.now n c.args.t.0 p.result c.args.seat.now p.new.seat c.requires.seat p.ensures.seat
     p.ensures.view (grows_by p.ensures.log.0)) o.ensures.seat o.ensures.view (grows_by o.ensures.log.0)
 
-pub name_at-requires-clause-seat : goal.name_at-requires-clause-seat
-name_at-requires-clause-seat g c κs within = let p = c.see_phase in let o = c.see_owner in
+pub name_beside-requires-clause-seat : goal.name_beside-requires-clause-seat
+name_beside-requires-clause-seat g c κs within = let p = c.see_phase in let o = c.see_owner in
     let n = c.args.laid.now.cells in
     observes_on c.args.laid.now c.args.seat.now o.new.seat c.requires.seat
     (after_owner n c.in-Waiting.cell.0 o.result c.args.seat.now p.new.seat o.new.seat
     (after_phase c.args.laid.now n c.args.t.0 p.result c.args.seat.now p.new.seat c.requires.seat p.ensures.seat
     p.ensures.view (grows_by p.ensures.log.0)) o.ensures.seat o.ensures.view (grows_by o.ensures.log.0))
 
-pub name_at-requires-clause-known : goal.name_at-requires-clause-known
-name_at-requires-clause-known g c κs within = let p = c.see_phase in let o = c.see_owner in let w = c.in-Waiting in
+pub name_beside-requires-clause-known : goal.name_beside-requires-clause-known
+name_beside-requires-clause-known g c κs within = let p = c.see_phase in let o = c.see_owner in let w = c.in-Waiting in
     task_known c.args.laid.now c.args.laid.now.cells c.args.t.0 p.result w.cell w.field-1 w.field-2 o.result
     c.args.seat.now p.new.seat o.new.seat c.requires.seat w.is p.ensures.view o.ensures.view
 
 pub returns-in_err-task-clause-seat : goal.returns-in_err-task-clause-seat
 returns-in_err-task-clause-seat g c = let p = c.see_phase in let o = c.see_owner in let n = c.args.laid.now.cells in
-    looks_on c.args.seat.now o.new.seat c.name_at.new.seat
+    looks_on c.args.seat.now o.new.seat c.name_beside.new.seat
     (after_owner n c.in-Waiting.cell.0 o.result c.args.seat.now p.new.seat o.new.seat
     (after_phase c.args.laid.now n c.args.t.0 p.result c.args.seat.now p.new.seat c.requires.seat p.ensures.seat
     p.ensures.view (grows_by p.ensures.log.0)) o.ensures.seat o.ensures.view
-    (grows_by o.ensures.log.0)) c.name_at.ensures.seat
+    (grows_by o.ensures.log.0)) c.name_beside.ensures.seat
 
-pub name_at-requires-2-clause-seat : goal.name_at-requires-2-clause-seat
-name_at-requires-2-clause-seat g c κs within = let p = c.see_phase in let o = c.see_owner in
+pub name_beside-requires-2-clause-seat : goal.name_beside-requires-2-clause-seat
+name_beside-requires-2-clause-seat g c κs within = let p = c.see_phase in let o = c.see_owner in
     let n = c.args.laid.now.cells in
-    observes_on c.args.laid.now c.args.seat.now c.name_at.new.seat c.requires.seat
-    (looks_on c.args.seat.now o.new.seat c.name_at.new.seat
+    observes_on c.args.laid.now c.args.seat.now c.name_beside.new.seat c.requires.seat
+    (looks_on c.args.seat.now o.new.seat c.name_beside.new.seat
     (after_owner n c.in-Waiting.cell.0 o.result c.args.seat.now p.new.seat o.new.seat
     (after_phase c.args.laid.now n c.args.t.0 p.result c.args.seat.now p.new.seat c.requires.seat p.ensures.seat
     p.ensures.view (grows_by p.ensures.log.0)) o.ensures.seat o.ensures.view
-    (grows_by o.ensures.log.0)) c.name_at.ensures.seat)
+    (grows_by o.ensures.log.0)) c.name_beside.ensures.seat)
 
-pub name_at-requires-2-clause-known : goal.name_at-requires-2-clause-known
-name_at-requires-2-clause-known g c κs within = let p = c.see_phase in let o = c.see_owner in
+pub name_beside-requires-2-clause-known : goal.name_beside-requires-2-clause-known
+name_beside-requires-2-clause-known g c κs within = let p = c.see_phase in let o = c.see_owner in
     cell_known c.args.laid.now.cells c.in-Waiting.cell.0 o.result c.in-Some.owner p.new.seat o.new.seat
-    c.name_at.new.seat c.in-Some.is o.ensures.view c.name_at.ensures.seat
+    c.name_beside.new.seat c.in-Some.is o.ensures.view c.name_beside.ensures.seat
 
 pub returns-in_err-cell-clause-seat : goal.returns-in_err-cell-clause-seat
 returns-in_err-cell-clause-seat g c = let p = c.see_phase in let o = c.see_owner in let n = c.args.laid.now.cells in
-    looks_on c.args.seat.now c.name_at.new.seat c.name_at-2.new.seat
-    (looks_on c.args.seat.now o.new.seat c.name_at.new.seat
+    looks_on c.args.seat.now c.name_beside.new.seat c.name_beside-2.new.seat
+    (looks_on c.args.seat.now o.new.seat c.name_beside.new.seat
     (after_owner n c.in-Waiting.cell.0 o.result c.args.seat.now p.new.seat o.new.seat
     (after_phase c.args.laid.now n c.args.t.0 p.result c.args.seat.now p.new.seat c.requires.seat p.ensures.seat
     p.ensures.view (grows_by p.ensures.log.0)) o.ensures.seat o.ensures.view
-    (grows_by o.ensures.log.0)) c.name_at.ensures.seat) c.name_at-2.ensures.seat
+    (grows_by o.ensures.log.0)) c.name_beside.ensures.seat) c.name_beside-2.ensures.seat
 
 pub returns-clause-seat : goal.returns-clause-seat
 returns-clause-seat g c = let p = c.see_phase in let o = c.see_owner in let n = c.args.laid.now.cells in
-    looks_on c.args.seat.now c.name_at.new.seat c.name_at-2.new.seat
-    (looks_on c.args.seat.now o.new.seat c.name_at.new.seat
+    looks_on c.args.seat.now c.name_beside.new.seat c.name_beside-2.new.seat
+    (looks_on c.args.seat.now o.new.seat c.name_beside.new.seat
     (after_owner n c.in-Waiting.cell.0 o.result c.args.seat.now p.new.seat o.new.seat
     (after_phase c.args.laid.now n c.args.t.0 p.result c.args.seat.now p.new.seat c.requires.seat p.ensures.seat
     p.ensures.view (grows_by p.ensures.log.0)) o.ensures.seat o.ensures.view
-    (grows_by o.ensures.log.0)) c.name_at.ensures.seat) c.name_at-2.ensures.seat
+    (grows_by o.ensures.log.0)) c.name_beside.ensures.seat) c.name_beside-2.ensures.seat
 
 pub returns-clause-turn : goal.returns-clause-turn
 returns-clause-turn g c = let p = c.see_phase in let o = c.see_owner in let w = c.in-Waiting in
-    let n = c.name_at in let m = c.name_at-2 in
+    let n = c.name_beside in let m = c.name_beside-2 in
     turn_found c.args.t.0 p.result w.cell w.field-1 w.field-2 o.result c.in-Some.owner
     (record { task = c.in_ok-task.task; cell = c.in_ok-cell.cell }) c.args.seat.now.log p.new.seat.log o.new.seat.log
     m.new.seat.log m.new.seat.me.0.seen w.is p.ensures.log.0 c.in-Some.is o.ensures.log.0

@@ -1,8 +1,0 @@
-use Rattle.std.proofs.Common.{◌≡◌, ◌++◌, drop}
-use Rattle.tj_base.specs.Texts.{parts_text}
-use Rattle.tj_known.proofs.text.add_numbers.Given as goal
-
--- the text so far and that of the numbers to come are the whole text
-abbrev pub invariant-loop-number : goal.invariant-loop-number
-invariant-loop-number l =
-    l.text.items ++ parts_text (drop l.number-index l.numbers) ≡ l.initial.text.items ++ parts_text l.numbers
