@@ -59,7 +59,7 @@ use Rattle.tj_laws.specs.TableWaits.{HasAlarmed}
 use Rattle.tj_laws.proofs.FirstClaims.{after, allowed, claim, claimed, first, found_is, left_is, seat}
 
 -- the first of a list is what is put there
-first_set : {A : Type 0} (l : List A) (a b : A) → get_elem? l 0 ≡ some b → get_elem? (set l 0 a) 0 ≡ some a
+pub first_set : {A : Type 0} (l : List A) (a b : A) → get_elem? l 0 ≡ some b → get_elem? (set l 0 a) 0 ≡ some a
 first_set [] a b e = absurd (some-ne-none b (sym e))
 first_set (x ∷ xs) a b e = refl
 

@@ -56,7 +56,7 @@ use Rattle.tj_laws.proofs.FirstClaims.{claim, first}
 use Rattle.tj_laws.proofs.FirstRests.{taken_is}
 
 -- BITS isn't due any more where TAG alone is
-bits_written : ¬ IsDue 0 once.Bits (record { cell = 0; word = once.Tag } ∷ [])
+pub bits_written : ¬ IsDue 0 once.Bits (record { cell = 0; word = once.Tag } ∷ [])
 bits_written (inl e) = let z : once.Bits ≡ once.Tag = ap (λ (d : Due). d.word) e in absurd (cc)
 bits_written (inr n) = n
 

@@ -29,3 +29,6 @@ pub mod FirstWakes
 pub mod NotedPuts
 pub mod EndedStores
 pub mod HeldTasks
+pub mod RunSteps
+pub mod FirstCloses
+pub mod FirstEnds

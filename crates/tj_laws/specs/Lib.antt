@@ -12,3 +12,4 @@ pub mod SlotsInHand
 pub mod ClosedNames
 pub mod LoggedPhases
 pub mod EndedStores
+pub mod EndedRoots

@@ -1,5 +1,6 @@
 use Rattle.tj_laws.proofs.FirstAlarms.{roots_alarm}
 use Rattle.tj_laws.proofs.FirstClaims.{roots_claimed}
+use Rattle.tj_laws.proofs.FirstEnds.{roots_end}
 use Rattle.tj_laws.proofs.FirstRests.{joiners_rest}
 use Rattle.tj_laws.proofs.FirstTags.{enders_tagged}
 use Rattle.tj_laws.proofs.FirstMoments.{new_tables_go_on}
@@ -30,3 +31,8 @@ pub returns-clause-claimed_again : goal.returns-clause-claimed_again
 returns-clause-claimed_again g c = waiters_claimed_again _ _ _ _ _ c.start_meets_facts.ensures
     c.event_keeps_facts.ensures c.others_are_few.ensures c.points_in_rounds.ensures.start
     c.points_in_rounds.ensures.things c.points_in_rounds.ensures.written c.full_where_names.ensures
+
+pub returns-clause-ends : goal.returns-clause-ends
+returns-clause-ends g c = roots_end _ _ _ _ _ c.start_meets_facts.ensures c.event_keeps_facts.ensures
+    c.others_are_few.ensures c.points_in_rounds.ensures.start c.points_in_rounds.ensures.written
+    c.ended_records.ensures.lie
